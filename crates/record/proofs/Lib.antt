@@ -1,0 +1,9 @@
+mod Chain
+mod Ends
+mod Handed
+mod Names
+mod Shown
+mod Steps
+mod Tail
+mod Types
+mod Verdicts

@@ -1,0 +1,14 @@
+-- The two bytes read are those of the number. Assumes nothing.
+use native.Mathlib.Omega.{arith}
+use borrow.Author.Needs.{needs}
+use Rattle.format.specs.Laws.Bytes.{num-two}
+use Rattle.record.proofs.leaves.field_at.Statement.{statement}
+use Rattle.record.proofs.leaves.field_at.Tie as tie
+
+returns : tie.Need-returns
+returns c =
+    let a = c .before .before .before .before .args in
+    omega (arith, c .pair16 .ensures, num-two (a .i) (a .s .now))
+
+pub field-at-spec : {M : Type 1} → statement M
+field-at-spec = tie.close (tie.spec (λ c. omega arith) (λ c. omega arith) (λ c. omega arith) (λ c κs. search needs) returns)

@@ -1,0 +1,272 @@
+// The bench samples of 01 that are run and not proved: each line that is written says what the reader
+// answers, and stands compared in the file stdout.
+
+use libc::STDOUT_FILENO;
+
+// S: both names empty, no SID, strings or data, number 7.
+const S: [u8; 64] = [
+    64,
+    0,
+    0,
+    0,
+    76,
+    102,
+    76,
+    101,
+    7,
+    0,
+    0,
+    0,
+    0,
+    0,
+    0,
+    0,
+    0,
+    0,
+    0,
+    0,
+    0,
+    0,
+    0,
+    0,
+    0,
+    0,
+    0,
+    0,
+    0,
+    0,
+    0,
+    0,
+    0,
+    0,
+    0,
+    0,
+    0,
+    0,
+    0,
+    0,
+    0,
+    0,
+    0,
+    0,
+    0,
+    0,
+    0,
+    0,
+    0,
+    0,
+    0,
+    0,
+    0,
+    0,
+    0,
+    0,
+    0,
+    0,
+    0,
+    0,
+    64,
+    0,
+    0,
+    0,
+];
+
+// T: source "Scale", computer "T1", SID of 12 bytes, one string "OK", 3 data bytes, number 8.
+const T: [u8; 104] = [
+    104,
+    0,
+    0,
+    0,
+    76,
+    102,
+    76,
+    101,
+    8,
+    0,
+    0,
+    0,
+    0,
+    0,
+    0,
+    0,
+    0,
+    0,
+    0,
+    0,
+    0,
+    0,
+    0,
+    0,
+    0,
+    0,
+    1,
+    0,
+    0,
+    0,
+    0,
+    0,
+    0,
+    0,
+    0,
+    0,
+    88,
+    0,
+    0,
+    0,
+    12,
+    0,
+    0,
+    0,
+    76,
+    0,
+    0,
+    0,
+    3,
+    0,
+    0,
+    0,
+    94,
+    0,
+    0,
+    0,
+    83,
+    0,
+    99,
+    0,
+    97,
+    0,
+    108,
+    0,
+    101,
+    0,
+    0,
+    0,
+    84,
+    0,
+    49,
+    0,
+    0,
+    0,
+    0,
+    0,
+    1,
+    1,
+    0,
+    0,
+    0,
+    0,
+    0,
+    0,
+    0,
+    0,
+    0,
+    0,
+    79,
+    0,
+    75,
+    0,
+    0,
+    0,
+    0,
+    0,
+    0,
+    0,
+    0,
+    0,
+    104,
+    0,
+    0,
+    0,
+];
+
+// Writes what was asked, and the refusal of the record at the start of s.
+fn show(what: &[u8], s: &[u8]) {
+    io::write_all(STDOUT_FILENO, what);
+    io::print_decimal(STDOUT_FILENO, record::refusal(s, 0) as u64);
+    io::write_all(STDOUT_FILENO, b"\n");
+}
+
+// Puts a byte at every place of s.
+fn fill(s: &mut [u8], v: u8) {
+    let mut i = 0;
+    while i < s.len() {
+        s[i] = v;
+        i += 1;
+    }
+}
+
+fn types() {
+    let mut t = T;
+    t[24] = 32;
+    show(b"T with type 32: ", &t);
+    t[24] = 16;
+    show(b"T with type 16: ", &t);
+    let mut s = S;
+    s[0] = 60;
+    show(b"S with Length 60: ", &s);
+}
+
+fn flags() {
+    let mut t = T;
+    t[31] = 128;
+    show(b"T with flags 0x8000: ", &t);
+    t[31] = 64;
+    show(b"T with flags 0x4000: ", &t);
+}
+
+// Empty strings: 256 of them in a record of 576 bytes, and 257 in one of 580.
+fn strings() {
+    let mut r = [0u8; 580];
+    r[4] = 76;
+    r[5] = 102;
+    r[6] = 76;
+    r[7] = 101;
+    r[0] = 64;
+    r[1] = 2;
+    r[27] = 1;
+    r[36] = 60;
+    r[572] = 64;
+    r[573] = 2;
+    show(b"256 strings: ", &r);
+    r[0] = 68;
+    r[26] = 1;
+    r[572] = 0;
+    r[573] = 0;
+    r[576] = 68;
+    r[577] = 2;
+    show(b"257 strings: ", &r);
+}
+
+// The array's type says its length, which stores do not change.
+fn show_array(what: &[u8], r: &[u8; 65536]) {
+    show(what, r);
+}
+
+// A name of 2,014 units and 61,440 bytes of data make 65,532 bytes; two units more make 65,536.
+fn longest() {
+    let mut r = [0u8; 65536];
+    r[4] = 76;
+    r[5] = 102;
+    r[6] = 76;
+    r[7] = 101;
+    r[0] = 252;
+    r[1] = 255;
+    r[49] = 240;
+    r[52] = 248;
+    r[53] = 15;
+    fill(&mut r[56..4084], 1);
+    r[65528] = 252;
+    r[65529] = 255;
+    show_array(b"Length 65532: ", &r);
+    r[0] = 0;
+    r[1] = 0;
+    r[2] = 1;
+    show_array(b"Length 65536: ", &r);
+}
+
+fn main() {
+    types();
+    flags();
+    strings();
+    longest();
+}
