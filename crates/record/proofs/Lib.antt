@@ -1,9 +1,7 @@
 mod Chain
-mod Ends
 mod Handed
 mod Names
 mod Shown
 mod Steps
 mod Tail
-mod Types
 mod Verdicts

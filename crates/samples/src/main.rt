@@ -1,5 +1,8 @@
-// The bench samples of 01 that are run and not proved: each line that is written says what the reader
-// answers, and stands compared in the file stdout.
+// The bench samples of 01 that are run and not proved: each line says what the reader, the writer or the
+// append answers, and stands compared in the file stdout.
+
+mod appending;
+mod writing;
 
 use libc::STDOUT_FILENO;
 
@@ -136,4 +139,6 @@ fn main() {
     flags();
     strings();
     longest();
+    writing::writing();
+    appending::appending();
 }

@@ -1,0 +1,5 @@
+mod Answers
+mod Extents
+mod Pieces
+mod Tests
+mod Whole
