@@ -1,13 +1,14 @@
-// The bench samples of 01 that are run and not proved: each line says what the reader, the writer or the
-// append answers, and stands compared in the file stdout.
+// The bench samples of 01 that are run and not proved: each line says what a call answers, and
+// stands compared in the file stdout.
 
 mod appending;
+mod serving;
 mod writing;
 
 use libc::STDOUT_FILENO;
 
 // S: both names empty, no SID, strings or data, number 7.
-fn sample_s() -> [u8; 64] {
+pub fn sample_s() -> [u8; 64] {
     let mut r = [0u8; 64];
     r[0] = 64;
     r[4] = 76;
@@ -20,7 +21,7 @@ fn sample_s() -> [u8; 64] {
 }
 
 // T: source "Scale", computer "T1", SID of 12 bytes, one string "OK", 3 data bytes, number 8.
-fn sample_t() -> [u8; 104] {
+pub fn sample_t() -> [u8; 104] {
     let mut r = [0u8; 104];
     r[0] = 104;
     r[4] = 76;
@@ -141,4 +142,5 @@ fn main() {
     longest();
     writing::writing();
     appending::appending();
+    serving::serving();
 }
