@@ -1,0 +1,30 @@
+//! Windows event records (EVENTLOGRECORD of MS-EVEN 2.2.3), Unicode only.
+//!
+//! Reads one record at a place in a buffer, walks a batch from the front or
+//! the rear, writes a record, appends one to a log, serves read requests over
+//! a log and lists a batch. Every part handed back borrows the caller's bytes;
+//! only [`listing`] allocates.
+
+#![forbid(unsafe_code)]
+#![warn(missing_docs)]
+
+mod judge;
+mod layout;
+mod listing;
+mod record;
+mod serve;
+mod walk;
+mod write;
+
+pub use judge::{judge, judge_back};
+pub use layout::{
+    refused, Fields, MAX_DATA, MAX_LENGTH, MAX_STRINGS, MIN_LENGTH, SIGNATURE, XML_FLAG,
+};
+pub use listing::{listing, MAX_LISTED};
+pub use record::{
+    computer_name, event_data, refusal, sid, source_name, step, step_back, string, string_refusal,
+    Record, Refusal,
+};
+pub use serve::{flags, status, Answer, Handle, Place, MAX_READ};
+pub use walk::{walk, walk_back, Walked};
+pub use write::{append, write, Event};

@@ -1,0 +1,78 @@
+//! Appending to a log.
+
+mod common;
+
+use common::*;
+use plain::*;
+
+#[test]
+fn numbers_count_on() {
+    let mut log = [0xAA; 400];
+    let mut used = 0;
+    for (event, number, length) in [(t_event(), 1, 104), (s_event(), 2, 64), (t_event(), 3, 104)] {
+        let before = used;
+        used = append(&mut log, used, &event).unwrap();
+        assert_eq!(used, before + length);
+        let record = step(&log, before).unwrap();
+        assert_eq!(record.fields.record_number, number);
+        let expected = Event {
+            fields: Fields {
+                record_number: number,
+                ..event.fields
+            },
+            ..event
+        };
+        assert_eq!(log[before..used], written(&expected));
+        assert!(log[used..].iter().all(|b| *b == 0xAA));
+    }
+    assert_eq!(
+        walk(&log[..used]),
+        Walked {
+            count: 3,
+            refusal: 0
+        }
+    );
+}
+
+#[test]
+fn numbers_wrap() {
+    let mut log = with32(&S, 8, u32::MAX);
+    log.resize(128, 0);
+    assert_eq!(append(&mut log, 64, &s_event()), Ok(128));
+    assert_eq!(step(&log, 64).unwrap().fields.record_number, 0);
+    log.resize(192, 0);
+    assert_eq!(append(&mut log, 128, &s_event()), Ok(192));
+    assert_eq!(step(&log, 128).unwrap().fields.record_number, 1);
+}
+
+#[test]
+fn refusals_change_nothing() {
+    let wrong = Event {
+        fields: Fields {
+            event_type: 3,
+            ..Fields::default()
+        },
+        ..Event::default()
+    };
+    let mut log = s_t();
+    log.extend([0xAA; 63]);
+    let before = log.clone();
+    let mut expect = |used, event: &Event, number| {
+        assert_eq!(append(&mut log, used, event), Err(number));
+        assert_eq!(log, before);
+    };
+    expect(232, &wrong, 1);
+    for used in [1, 63, 65, 104, 167, 169, 231] {
+        expect(used, &wrong, 14);
+    }
+    expect(168, &wrong, 6);
+    expect(0, &wrong, 6);
+    expect(168, &s_event(), 15);
+    assert_eq!(append(&mut [], 0, &s_event()), Err(15));
+    assert_eq!(append(&mut [], 1, &s_event()), Err(1));
+    // Only the last record is judged.
+    let mut log = [0xFF; 200];
+    log[36..100].copy_from_slice(&S);
+    assert_eq!(append(&mut log, 100, &s_event()), Ok(164));
+    assert_eq!(step(&log, 100).unwrap().fields.record_number, 8);
+}

@@ -1,0 +1,247 @@
+//! Every bench sample of the paper.
+
+mod common;
+
+use common::*;
+use plain::*;
+
+const FORWARDS: u32 = 5;
+const BACKWARDS: u32 = 9;
+
+fn boundary(at: usize) -> Handle {
+    Handle {
+        place: Place::Boundary(at),
+    }
+}
+
+/// The number with which `s` is refused at 0, from the front and, as a whole,
+/// from the rear.
+fn both(s: &[u8]) -> (u32, u32) {
+    assert_eq!(refusal(s, 0), judge(s, 0).err().unwrap_or(0));
+    (refusal(s, 0), judge_back(s, s.len()).err().unwrap_or(0))
+}
+
+#[test]
+fn s_is_read() {
+    let record = step(&S, 0).unwrap();
+    let expected = Record {
+        start: 0,
+        length: 64,
+        fields: Fields {
+            record_number: 7,
+            ..Fields::default()
+        },
+        source_name: &[],
+        source_name_at: 56,
+        computer_name: &[],
+        computer_name_at: 58,
+        sid: &[],
+        sid_at: 60,
+        strings: &[],
+        strings_at: 60,
+        event_data: &[],
+        event_data_at: 60,
+    };
+    assert_eq!(record, expected);
+    assert_eq!(step_back(&S, 64), Ok(expected));
+    assert_eq!(judge(&S, 0), Ok(64));
+    assert_eq!(judge_back(&S, 64), Ok(64));
+    assert_eq!(written(&s_event()), S);
+}
+
+#[test]
+fn t_is_read() {
+    let record = step(&T, 0).unwrap();
+    assert_eq!((record.start, record.length), (0, 104));
+    assert_eq!(record.fields, t_event().fields);
+    assert_eq!((record.source_name, record.source_name_at), (SCALE, 56));
+    assert_eq!((record.computer_name, record.computer_name_at), (T1, 68));
+    assert_eq!((record.sid, record.sid_at), (SID, 76));
+    assert_eq!((record.strings, record.strings_at), (OK_RUN, 88));
+    assert_eq!((record.event_data, record.event_data_at), (&[0; 3][..], 94));
+    assert_eq!(step_back(&T, 104), Ok(record));
+    assert_eq!(written(&t_event()), T);
+}
+
+#[test]
+fn parts_of_t_by_place() {
+    let log = s_t();
+    assert_eq!(source_name(&log, 64), SCALE);
+    assert_eq!(computer_name(&log, 64), T1);
+    assert_eq!(sid(&log, 64), SID);
+    assert_eq!(event_data(&log, 64), [0; 3]);
+    assert_eq!(string(&log, 64, 0), OK);
+    assert_eq!(string_refusal(&log, 64, 0), 0);
+    for k in [1, 2, 256, u32::MAX] {
+        assert_eq!(string(&log, 64, k), b"");
+        assert_eq!(string_refusal(&log, 64, k), 17);
+    }
+    // S has none of the parts.
+    for part in [source_name, computer_name, sid, event_data] {
+        assert_eq!(part(&log, 0), b"");
+    }
+    assert_eq!((refusal(&log, 0), string_refusal(&log, 0, 0)), (0, 17));
+    // A refused record hands back nothing; it is judged before the number.
+    for part in [source_name, computer_name, sid, event_data] {
+        assert_eq!(part(&log, 4), b"");
+    }
+    assert_eq!(string(&log, 4, 0), b"");
+    assert_eq!(refusal(&log, 4), 2);
+    assert_eq!(
+        (string_refusal(&log, 4, 0), string_refusal(&log, 4, 9)),
+        (2, 2)
+    );
+    // They are the caller's own bytes.
+    assert!(std::ptr::eq(sid(&log, 64), &log[140..152]));
+    assert!(std::ptr::eq(string(&log, 64, 0), &log[152..156]));
+}
+
+#[test]
+fn t_changed() {
+    assert_eq!(both(&with32(&T, 36, 90)), (11, 11));
+    assert_eq!(both(&with32(&T, 52, 95)), (12, 12));
+    assert_eq!(refusal(&with32(&T, 100, 100), 0), 5);
+    assert_eq!(both(&with16(&T, 24, 3)), (6, 6));
+    assert_eq!(both(&with16(&T, 24, 32)), (6, 6));
+    assert_eq!(both(&with16(&T, 24, 16)), (0, 0));
+    assert_eq!(both(&with16(&T, 30, 0x8000)), (0, 0));
+    assert_eq!(both(&with16(&T, 30, 0x4000)), (7, 7));
+}
+
+#[test]
+fn s_changed() {
+    let mut longer = S[..60].to_vec();
+    longer.extend([0; 4]);
+    longer.extend(68u32.to_le_bytes());
+    let longer = with32(&longer, 0, 68);
+    assert_eq!(both(&longer), (13, 13));
+    assert_eq!(both(&with32(&S, 0, 60)), (2, 5));
+    assert_eq!(both(&with32(&S, 60, 60)), (5, 2));
+}
+
+#[test]
+fn empty_buffer() {
+    assert_eq!(step(&[], 0), Err(Refusal { number: 1, at: 0 }));
+    assert_eq!(step_back(&[], 0), Err(Refusal { number: 1, at: 0 }));
+    let none = Walked {
+        count: 0,
+        refusal: 0,
+    };
+    assert_eq!((walk(&[]), walk_back(&[])), (none, none));
+}
+
+#[test]
+fn log_forwards() {
+    let log = s_t();
+    let mut out = [0xAA; 200];
+    let first = Handle::fresh().read(&log, FORWARDS, 0, 64, &mut out);
+    assert_eq!(
+        first,
+        Answer {
+            status: 0,
+            read: 64,
+            needed: 0,
+            handle: boundary(64)
+        }
+    );
+    assert_eq!(out[..64], S);
+    assert!(out[64..].iter().all(|b| *b == 0xAA));
+
+    let mut out = [0xAA; 200];
+    let second = first.handle.read(&log, FORWARDS, 0, 103, &mut out);
+    assert_eq!(
+        second,
+        Answer {
+            status: 0xC000_0023,
+            read: 0,
+            needed: 104,
+            handle: boundary(64)
+        }
+    );
+    assert_eq!(out, [0xAA; 200]);
+}
+
+#[test]
+fn log_backwards() {
+    let log = s_t();
+    let mut out = [0xAA; 200];
+    let first = Handle::fresh().read(&log, BACKWARDS, 0, 168, &mut out);
+    assert_eq!(
+        first,
+        Answer {
+            status: 0,
+            read: 168,
+            needed: 0,
+            handle: boundary(0)
+        }
+    );
+    assert_eq!(out[..104], T);
+    assert_eq!(out[104..168], S);
+    assert!(out[168..].iter().all(|b| *b == 0xAA));
+
+    let second = first.handle.read(&log, BACKWARDS, 0, 168, &mut out);
+    assert_eq!(
+        second,
+        Answer {
+            status: 0xC000_0011,
+            read: 0,
+            needed: 0,
+            handle: boundary(0)
+        }
+    );
+
+    let mut out = [0xAA; 200];
+    let only = Handle::fresh().read(&log, BACKWARDS, 0, 167, &mut out);
+    assert_eq!(
+        (only.status, only.read, only.handle),
+        (0, 104, boundary(64))
+    );
+    assert_eq!(out[..104], T);
+    assert!(out[104..].iter().all(|b| *b == 0xAA));
+}
+
+#[test]
+fn seek_nine() {
+    for flags in [6, 10] {
+        let mut out = [0xAA; 200];
+        let answer = Handle::fresh().read(&s_t(), flags, 9, 200, &mut out);
+        assert_eq!(
+            answer,
+            Answer {
+                status: 0xC000_000D,
+                read: 0,
+                needed: 0,
+                handle: Handle::fresh()
+            }
+        );
+        assert_eq!(out, [0xAA; 200]);
+    }
+}
+
+#[test]
+fn size_zero() {
+    let log = s_t();
+    for (flags, needed) in [(FORWARDS, 64), (BACKWARDS, 104)] {
+        let answer = Handle::fresh().read(&log, flags, 0, 0, &mut []);
+        assert_eq!((answer.status, answer.needed), (0xC000_0023, needed));
+        assert_eq!(answer.handle, Handle::fresh());
+        let answer = Handle::fresh().read(&[], flags, 0, 0, &mut []);
+        assert_eq!((answer.status, answer.needed), (0xC000_0011, 0));
+        assert_eq!(answer.handle, Handle::fresh());
+    }
+}
+
+#[test]
+fn listings() {
+    let log = s_t();
+    assert_eq!(listing(&log), "records 2\n0 64 7\n64 104 8\n");
+    assert_eq!(listing(&log[..167]), "refused 3 at 64\n");
+    assert_eq!(listing(&[]), "records 0\n");
+    assert_eq!(listing(&vec![0; 65_537]), "refused 16 at 0\n");
+    assert_eq!(listing(&vec![0; 65_536]), "refused 2 at 0\n");
+    // 1024 times S fills the program's buffer to the last byte.
+    let full = S.repeat(1024);
+    assert!(listing(&full).starts_with("records 1024\n0 64 7\n64 64 7\n"));
+    assert!(listing(&full).ends_with("\n65472 64 7\n"));
+    assert_eq!(listing(&[&full[..], &S].concat()), "refused 16 at 0\n");
+}

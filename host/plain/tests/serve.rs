@@ -1,0 +1,256 @@
+//! Read requests: seeks, turning round, broken logs, and whole series of reads
+//! against the paper's count.
+
+mod common;
+
+use common::*;
+use plain::*;
+
+const SEEK_FORWARDS: u32 = 6;
+const SEEK_BACKWARDS: u32 = 10;
+
+fn at(place: usize) -> Handle {
+    Handle {
+        place: Place::Boundary(place),
+    }
+}
+
+/// Three records: S (7) at 0, T (8) at 64, S (9) at 168.
+fn three() -> Vec<u8> {
+    [s_t(), with32(&S, 8, 9)].concat()
+}
+
+/// A read into a marked output; checks that the rest of it is unchanged.
+fn read(handle: Handle, log: &[u8], flags: u32, number: u32, size: usize) -> (Answer, Vec<u8>) {
+    let mut out = vec![0xAA; size + 9];
+    let answer = handle.read(log, flags, number, size, &mut out);
+    assert!(out[answer.read..].iter().all(|b| *b == 0xAA));
+    if answer.status != 0 {
+        assert_eq!((answer.read, answer.handle), (0, handle));
+        assert!((answer.needed != 0) == (answer.status == 0xC000_0023));
+    } else {
+        assert_eq!(answer.needed, 0);
+    }
+    out.truncate(answer.read);
+    (answer, out)
+}
+
+#[test]
+fn seeks() {
+    let log = three();
+    let (answer, out) = read(at(0), &log, SEEK_FORWARDS, 8, 1000);
+    assert_eq!((answer.status, answer.handle), (0, at(232)));
+    assert_eq!(out, log[64..]);
+    let (answer, out) = read(at(232), &log, SEEK_FORWARDS, 8, 104);
+    assert_eq!((answer.status, answer.handle), (0, at(168)));
+    assert_eq!(out, T);
+    let (answer, out) = read(Handle::fresh(), &log, SEEK_BACKWARDS, 8, 1000);
+    assert_eq!((answer.status, answer.handle), (0, at(0)));
+    assert_eq!(out, [&T[..], &S].concat());
+    let (answer, out) = read(Handle::fresh(), &log, SEEK_BACKWARDS, 7, 1000);
+    assert_eq!((answer.status, answer.handle), (0, at(0)));
+    assert_eq!(out, S);
+    let (answer, _) = read(Handle::fresh(), &log, SEEK_BACKWARDS, 8, 103);
+    assert_eq!((answer.status, answer.needed), (0xC000_0023, 104));
+    // Not there, whatever the log: an empty one included.
+    for log in [&log[..], &[]] {
+        let (answer, _) = read(Handle::fresh(), log, SEEK_FORWARDS, 10, 1000);
+        assert_eq!(answer.status, 0xC000_000D);
+    }
+    // The number is for seeks only.
+    let (answer, out) = read(Handle::fresh(), &log, 5, 8, 64);
+    assert_eq!((answer.status, out), (0, S.to_vec()));
+    // The handle's place does not matter for a seek, even inside a record.
+    let (answer, out) = read(at(33), &log, SEEK_FORWARDS, 9, 64);
+    assert_eq!((answer.status, answer.handle), (0, at(232)));
+    assert_eq!(out, log[168..]);
+}
+
+#[test]
+fn seeks_find_the_first() {
+    let log = [&T[..], &S, &T, &S].concat();
+    let (answer, _) = read(Handle::fresh(), &log, SEEK_FORWARDS, 7, 64);
+    assert_eq!(answer.handle, at(168));
+    let (answer, _) = read(Handle::fresh(), &log, SEEK_BACKWARDS, 7, 64);
+    assert_eq!(answer.handle, at(104));
+}
+
+#[test]
+fn seeks_in_a_broken_log() {
+    let mut log = three();
+    log[64 + 24] = 3;
+    let (answer, out) = read(Handle::fresh(), &log, SEEK_FORWARDS, 7, 1000);
+    assert_eq!((answer.status, answer.handle), (0, at(64)));
+    assert_eq!(out, S);
+    for number in [8, 9, 10] {
+        for flags in [SEEK_FORWARDS, SEEK_BACKWARDS] {
+            let (answer, _) = read(Handle::fresh(), &log, flags, number, 1000);
+            assert_eq!(answer.status, 0xC000_018E);
+        }
+    }
+    // A tail too short for a record refuses, too.
+    let log = [&S[..], &[0]].concat();
+    let (answer, _) = read(Handle::fresh(), &log, SEEK_FORWARDS, 8, 1000);
+    assert_eq!(answer.status, 0xC000_018E);
+}
+
+#[test]
+fn broken_logs() {
+    let mut log = three();
+    log[64 + 24] = 3;
+    // Forwards: S, then T refuses; T's refusal comes before its size.
+    let (answer, out) = read(Handle::fresh(), &log, 5, 0, 1000);
+    assert_eq!((answer.status, answer.handle, out), (0, at(64), S.to_vec()));
+    for size in [0, 1000] {
+        let (answer, _) = read(at(64), &log, 5, 0, size);
+        assert_eq!((answer.status, answer.needed), (0xC000_018E, 0));
+    }
+    // Backwards: the last S, then T refuses.
+    let (answer, out) = read(Handle::fresh(), &log, 9, 0, 1000);
+    assert_eq!((answer.status, answer.handle), (0, at(168)));
+    assert_eq!(out, log[168..]);
+    let (answer, _) = read(at(168), &log, 9, 0, 1000);
+    assert_eq!(answer.status, 0xC000_018E);
+    // Inside a record, and with fewer bytes left than any record has.
+    for place in [1, 63, 65, 200, 231] {
+        for flags in [5, 9] {
+            let (answer, _) = read(at(place), &log, flags, 0, 1000);
+            assert_eq!(answer.status, 0xC000_018E, "{place} {flags}");
+        }
+    }
+    assert_eq!(read(at(232), &log, 5, 0, 0).0.status, 0xC000_0011);
+    assert_eq!(read(at(0), &log, 9, 0, 0).0.status, 0xC000_0011);
+    assert_eq!(read(at(233), &log, 5, 0, 0).0.status, 0xC000_0008);
+}
+
+#[test]
+fn turning_round_returns_the_last_record_again() {
+    let log = three();
+    let (answer, out) = read(Handle::fresh(), &log, 5, 0, 168);
+    assert_eq!(out, s_t());
+    let (answer, out) = read(answer.handle, &log, 9, 0, 104);
+    assert_eq!((answer.handle, out), (at(64), T.to_vec()));
+    let (answer, out) = read(answer.handle, &log, 5, 0, 104);
+    assert_eq!((answer.handle, out), (at(168), T.to_vec()));
+}
+
+#[test]
+fn a_record_in_the_data_is_not_met() {
+    let inner = s_t();
+    let outer = written(&Event {
+        event_data: &inner,
+        ..s_event()
+    });
+    let log = [&outer[..], &S, &outer].concat();
+    let whole = Walked {
+        count: 3,
+        refusal: 0,
+    };
+    assert_eq!((walk(&log), walk_back(&log)), (whole, whole));
+    let (answer, _) = read(Handle::fresh(), &log, SEEK_FORWARDS, 8, 1000);
+    assert_eq!(answer.status, 0xC000_000D);
+}
+
+/// One series of reads in one direction against the count of demand 3.
+fn series(rng: &mut Rng, records: &[Vec<u8>], backwards: bool) {
+    let log = records.concat();
+    let mut order: Vec<&[u8]> = records.iter().map(|r| &r[..]).collect();
+    if backwards {
+        order.reverse();
+    }
+    let flags = if backwards { 9 } else { 5 };
+    let mut handle = Handle::fresh();
+    let mut c = 0;
+    let mut copied = Vec::new();
+    for _ in 0..12 {
+        let asked = if rng.below(8) == 0 {
+            rng.next() as u32 & 31
+        } else {
+            flags
+        };
+        let size = match rng.below(4) {
+            0 => rng.below(130),
+            1 => 2_000,
+            _ => rng.below(800),
+        };
+        let lent = match rng.below(8) {
+            0 => size.saturating_sub(1),
+            1 => size,
+            _ => size + rng.below(50),
+        };
+        let mut out = rng.bytes(lent);
+        let before = out.clone();
+        let wrong = ![5, 6, 9, 10].contains(&asked) || size > lent;
+        if !wrong && asked != flags {
+            continue;
+        }
+        let number = rng.next() as u32;
+        let answer = handle.read(&log, asked, number, size, &mut out);
+
+        let left = &order[c..];
+        let (status, read, needed) = if wrong {
+            (0xC000_000D, 0, 0)
+        } else if left.is_empty() {
+            (0xC000_0011, 0, 0)
+        } else if left[0].len() > size {
+            (0xC000_0023, 0, left[0].len())
+        } else {
+            let mut sum = 0;
+            for record in left {
+                if sum + record.len() > size {
+                    break;
+                }
+                sum += record.len();
+                c += 1;
+                copied.extend_from_slice(record);
+            }
+            (0, sum, 0)
+        };
+        assert_eq!(
+            (answer.status, answer.read, answer.needed),
+            (status, read, needed)
+        );
+        assert_eq!(out[..read], copied[copied.len() - read..]);
+        assert_eq!(out[read..], before[read..]);
+        let done: usize = order[..c].iter().map(|r| r.len()).sum();
+        let place = match (c, backwards) {
+            (0, _) => Place::Fresh,
+            (_, false) => Place::Boundary(done),
+            (_, true) => Place::Boundary(log.len() - done),
+        };
+        assert_eq!(answer.handle.place, place);
+        handle = answer.handle;
+    }
+    assert_eq!(copied, order[..c].concat());
+}
+
+#[test]
+fn series_of_reads() {
+    let mut rng = Rng(3);
+    for _ in 0..1000 {
+        let count = rng.below(8);
+        let records: Vec<_> = (0..count)
+            .map(|_| written(&Owned::random(&mut rng).event()))
+            .collect();
+        series(&mut rng, &records, false);
+        series(&mut rng, &records, true);
+    }
+}
+
+#[test]
+fn as_many_reads_as_records_reach_the_end() {
+    let mut rng = Rng(11);
+    let records: Vec<_> = (0..300)
+        .map(|_| written(&Owned::random(&mut rng).event()))
+        .collect();
+    let log = records.concat();
+    let mut out = vec![0; 65_532];
+    for flags in [5, 9] {
+        let mut handle = Handle::fresh();
+        for _ in 0..300 {
+            handle = handle.read(&log, flags, 0, 65_532, &mut out).handle;
+        }
+        let answer = handle.read(&log, flags, 0, 65_532, &mut out);
+        assert_eq!(answer.status, 0xC000_0011);
+    }
+}
