@@ -1,0 +1,57 @@
+-- What crosses to C: structs in the place of enums.
+-- Assumes nothing.
+use mathlib.Core.Bool.{cond}
+use mathlib.Core.List.{List}
+use Prim.Native.Nat.{ℕ}
+use lib.Dec.{eqb}
+use Rattle.format.specs.declared.Step.{Step}
+use Rattle.format.specs.declared.Step.the-variants.{Found, Refused}
+use Rattle.record.specs.Read.{emptyRecord}
+use Rattle.serve.specs.declared.Place.{Place}
+use Rattle.serve.specs.declared.Place.the-variants.{Fresh, Boundary}
+use Rattle.serve.specs.declared.Handle.{Handle}
+use Rattle.serve.specs.Answers.{Served}
+use Rattle.eventlog.specs.declared.Stepped.{Stepped}
+use Rattle.eventlog.specs.declared.ReadHandle.{ReadHandle}
+use Rattle.eventlog.specs.declared.ReadAnswer.{ReadAnswer}
+
+-- a step's answer, asked for at a place
+abbrev pub stepped : Step → ℕ → Stepped
+stepped (Found a) p = record { refusal = 0; at = p; found = a }
+stepped (Refused k q) p = record { refusal = k; at = p; found = emptyRecord }
+
+-- a handle that came across: every kind but 0 is a boundary
+abbrev pub placed : ℕ → ℕ → Place
+placed kind b = cond (eqb kind 0) Fresh (Boundary b)
+
+abbrev pub handleOf : ReadHandle → Handle
+handleOf h = record { place = placed (h .kind) (h .boundary) }
+
+-- a handle that goes across
+abbrev pub crossed : Place → ReadHandle
+crossed Fresh = record { kind = 0; boundary = 0 }
+crossed (Boundary b) = record { kind = 1; boundary = b }
+
+abbrev pub freshRead : ReadHandle
+freshRead = crossed Fresh
+
+-- what a read call answers and leaves, as it crosses
+pub record ReadServed : Type 0 where
+  pub answer : ReadAnswer
+  pub output : List ℕ
+
+abbrev pub readOutcome : ReadAnswer → List ℕ → ReadServed
+readOutcome r out = record { answer = r; output = out }
+
+abbrev pub across : Served → ReadServed
+across x =
+    record {
+      answer =
+          record {
+            status = x .answer .status;
+            read = x .answer .read;
+            needed = x .answer .needed;
+            handle = crossed (x .answer .handle .place);
+          };
+      output = x .output;
+    }

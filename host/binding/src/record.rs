@@ -1,0 +1,110 @@
+//! Records, strings and walks.
+
+use crate::ffi::{self, Fields, Part, Stepped, Walked};
+use crate::unless_refused;
+
+/// A good record. Its parts are the lent buffer's own bytes; the `_at` fields
+/// are their places in that buffer. An absent part is empty.
+#[derive(Clone, Copy, Debug, PartialEq, Eq)]
+pub struct Record<'a> {
+    /// Where the record starts in the buffer.
+    pub start: usize,
+    /// Length, the whole record in bytes.
+    pub length: usize,
+    /// The fields that do not follow from the layout.
+    pub fields: Fields,
+    /// SourceName without its zero unit.
+    pub source_name: &'a [u8],
+    /// Place of SourceName.
+    pub source_name_at: usize,
+    /// Computername without its zero unit.
+    pub computer_name: &'a [u8],
+    /// Place of Computername.
+    pub computer_name_at: usize,
+    /// The security identifier.
+    pub sid: &'a [u8],
+    /// Place of the security identifier.
+    pub sid_at: usize,
+    /// The strings as one run, with their zero units.
+    pub strings: &'a [u8],
+    /// Place of the strings.
+    pub strings_at: usize,
+    /// The event's data.
+    pub event_data: &'a [u8],
+    /// Place of the data.
+    pub event_data_at: usize,
+}
+
+/// Why no record was read, and the place that was asked for: the start in
+/// [`step`], the end in [`step_back`].
+#[derive(Clone, Copy, Debug, PartialEq, Eq)]
+pub struct Refusal {
+    /// 1 to 13 of [`refused`](crate::refused).
+    pub number: u32,
+    /// The place asked for.
+    pub at: usize,
+}
+
+/// Reads the record that starts at `at`.
+pub fn step(s: &[u8], at: usize) -> Result<Record<'_>, Refusal> {
+    record(s, ffi::step(s, at))
+}
+
+/// Reads the record that ends at `end`.
+pub fn step_back(s: &[u8], end: usize) -> Result<Record<'_>, Refusal> {
+    record(s, ffi::step_back(s, end))
+}
+
+/// The number with which a record at `at` is refused, 0 for none.
+pub fn refusal(s: &[u8], at: usize) -> u32 {
+    ffi::refusal(s, at)
+}
+
+/// String `k` of the record at `at`, counted from 0, without its zero unit.
+/// The record is judged before the number of the string.
+pub fn string(s: &[u8], at: usize, k: u32) -> Result<&[u8], u32> {
+    unless_refused(ffi::string_refusal(s, at, k), ())?;
+    Ok(lent(s, ffi::string(s, at, k)))
+}
+
+/// The number with which string `k` of the record at `at` is refused, 0 for none.
+pub fn string_refusal(s: &[u8], at: usize, k: u32) -> u32 {
+    ffi::string_refusal(s, at, k)
+}
+
+/// Steps from the front until the buffer is used up or a step refuses.
+pub fn walk(s: &[u8]) -> Walked {
+    ffi::walk(s)
+}
+
+/// Steps from the rear until the buffer is used up or a step refuses.
+pub fn walk_back(s: &[u8]) -> Walked {
+    ffi::walk_back(s)
+}
+
+fn record(s: &[u8], stepped: Stepped) -> Result<Record<'_>, Refusal> {
+    let Stepped { refusal, at, found } = stepped;
+    unless_refused(refusal, ()).map_err(|number| Refusal { number, at })?;
+    Ok(Record {
+        start: found.start,
+        length: found.length,
+        fields: found.fields,
+        source_name: lent(s, found.source_name),
+        source_name_at: found.source_name.at,
+        computer_name: lent(s, found.computer_name),
+        computer_name_at: found.computer_name.at,
+        sid: lent(s, found.sid),
+        sid_at: found.sid.at,
+        strings: lent(s, found.strings),
+        strings_at: found.strings.at,
+        event_data: lent(s, found.event_data),
+        event_data_at: found.event_data.at,
+    })
+}
+
+/// The part's bytes; it is proved to lie in `s`.
+fn lent(s: &[u8], part: Part) -> &[u8] {
+    s.get(part.at..)
+        .and_then(|from| from.get(..part.len))
+        .unwrap_or_default()
+}

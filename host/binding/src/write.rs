@@ -1,0 +1,44 @@
+//! Writing a record, appending one to a log, and the listing's text.
+
+use crate::ffi::{self, Fields};
+use crate::unless_refused;
+
+/// All that writing takes but the output.
+#[derive(Clone, Copy, Debug, Default, PartialEq, Eq)]
+pub struct Event<'a> {
+    /// The fields that do not follow from the layout.
+    pub fields: Fields,
+    /// SourceName without its zero unit.
+    pub source_name: &'a [u8],
+    /// Computername without its zero unit.
+    pub computer_name: &'a [u8],
+    /// The security identifier, empty for none.
+    pub sid: &'a [u8],
+    /// The strings as one run, each with its zero unit.
+    pub strings: &'a [u8],
+    /// The event's data, empty for none.
+    pub event_data: &'a [u8],
+}
+
+/// Writes `e` as a record at the start of `out`. Returns its Length, or the
+/// refusal's number with `out` unchanged.
+pub fn write(e: &Event<'_>, out: &mut [u8]) -> Result<usize, u32> {
+    let written = ffi::write(e, out);
+    unless_refused(written.refusal, written.length)
+}
+
+/// Appends `e` to the first `used` bytes of `log`, numbered one above the last
+/// record there, or 1; `e`'s own record number is ignored. Returns the new
+/// used length, or the refusal's number with `log` unchanged.
+pub fn append(log: &mut [u8], used: usize, e: &Event<'_>) -> Result<usize, u32> {
+    let appended = ffi::append(log, used, e);
+    unless_refused(appended.refusal, appended.used)
+}
+
+/// Writes the listing of a batch as text at the start of `out`, which must be
+/// 64 bytes longer than the batch. Returns the text's length, or 15 with `out`
+/// unchanged.
+pub fn listing(s: &[u8], out: &mut [u8]) -> Result<usize, u32> {
+    let written = ffi::listing(s, out);
+    unless_refused(written.refusal, written.length)
+}

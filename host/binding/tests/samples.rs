@@ -1,0 +1,231 @@
+//! The bench samples S and T through the binding.
+
+use eventlog::*;
+
+/// Both names empty, no SID, strings or data, number 7.
+#[rustfmt::skip]
+const S: [u8; 64] = [
+    0x40, 0, 0, 0, // Length 64
+    0x4C, 0x66, 0x4C, 0x65, // Reserved
+    7, 0, 0, 0, // RecordNumber
+    0, 0, 0, 0, // TimeGenerated
+    0, 0, 0, 0, // TimeWritten
+    0, 0, 0, 0, // EventID
+    0, 0, // EventType
+    0, 0, // NumStrings
+    0, 0, // EventCategory
+    0, 0, // ReservedFlags
+    0, 0, 0, 0, // ClosingRecordNumber
+    0, 0, 0, 0, // StringOffset
+    0, 0, 0, 0, // UserSidLength
+    0, 0, 0, 0, // UserSidOffset
+    0, 0, 0, 0, // DataLength
+    0, 0, 0, 0, // DataOffset
+    0, 0, // 56 SourceName
+    0, 0, // 58 Computername
+    0x40, 0, 0, 0, // 60 Length2
+];
+
+/// Source "Scale", computer "T1", SID of 12 bytes, one string "OK", 3 data
+/// bytes, number 8.
+#[rustfmt::skip]
+const T: [u8; 104] = [
+    0x68, 0, 0, 0, // Length 104
+    0x4C, 0x66, 0x4C, 0x65, // Reserved
+    8, 0, 0, 0, // RecordNumber
+    0, 0, 0, 0, // TimeGenerated
+    0, 0, 0, 0, // TimeWritten
+    0, 0, 0, 0, // EventID
+    0, 0, // EventType
+    1, 0, // NumStrings
+    0, 0, // EventCategory
+    0, 0, // ReservedFlags
+    0, 0, 0, 0, // ClosingRecordNumber
+    0x58, 0, 0, 0, // StringOffset 88
+    0x0C, 0, 0, 0, // UserSidLength 12
+    0x4C, 0, 0, 0, // UserSidOffset 76
+    3, 0, 0, 0, // DataLength
+    0x5E, 0, 0, 0, // DataOffset 94
+    b'S', 0, b'c', 0, b'a', 0, b'l', 0, b'e', 0, 0, 0, // 56 SourceName
+    b'T', 0, b'1', 0, 0, 0, // 68 Computername
+    0, 0, // 74 gap
+    1, 1, 0, 0, 0, 0, 0, 0, 0, 0, 0, 0, // 76 SID, one sub-authority
+    b'O', 0, b'K', 0, 0, 0, // 88 strings
+    0, 0, 0, // 94 data
+    0, 0, 0, // 97 gap
+    0x68, 0, 0, 0, // 100 Length2
+];
+
+const SCALE: &[u8] = b"S\0c\0a\0l\0e\0";
+const T1: &[u8] = b"T\x001\0";
+const OK: &[u8] = b"O\0K\0";
+const OK_RUN: &[u8] = b"O\0K\0\0\0";
+const SID: &[u8] = &[1, 1, 0, 0, 0, 0, 0, 0, 0, 0, 0, 0];
+
+fn s_t() -> Vec<u8> {
+    [&S[..], &T[..]].concat()
+}
+
+fn s_event() -> Event<'static> {
+    Event {
+        fields: Fields {
+            record_number: 7,
+            ..Fields::default()
+        },
+        ..Event::default()
+    }
+}
+
+fn t_event() -> Event<'static> {
+    Event {
+        fields: Fields {
+            record_number: 8,
+            num_strings: 1,
+            ..Fields::default()
+        },
+        source_name: SCALE,
+        computer_name: T1,
+        sid: SID,
+        strings: OK_RUN,
+        event_data: &[0; 3],
+    }
+}
+
+fn put(bytes: &[u8], at: usize, value: u8) -> Vec<u8> {
+    let mut changed = bytes.to_vec();
+    changed[at] = value;
+    changed
+}
+
+#[test]
+fn read() {
+    let log = s_t();
+    let s = step(&log, 0).unwrap();
+    assert_eq!((s.start, s.length, s.fields), (0, 64, s_event().fields));
+    assert!(s.source_name.is_empty() && s.computer_name.is_empty());
+    assert!(s.sid.is_empty() && s.strings.is_empty() && s.event_data.is_empty());
+
+    let t = step(&log, 64).unwrap();
+    assert_eq!((t.start, t.length, t.fields), (64, 104, t_event().fields));
+    assert_eq!((t.source_name, t.source_name_at), (SCALE, 64 + 56));
+    assert_eq!((t.computer_name, t.computer_name_at), (T1, 64 + 68));
+    assert_eq!((t.sid, t.sid_at), (SID, 64 + 76));
+    assert_eq!((t.strings, t.strings_at), (OK_RUN, 64 + 88));
+    assert_eq!((t.event_data, t.event_data_at), (&[0; 3][..], 64 + 94));
+    assert_eq!(step_back(&log, 168), Ok(t));
+    assert_eq!(step_back(&log, 64), Ok(s));
+
+    assert_eq!(string(&log, 64, 0), Ok(OK));
+    assert_eq!(string(&log, 64, 1), Err(17));
+    assert_eq!(string(&log, 0, 0), Err(17));
+    assert_eq!(string(&log, 1, 0), Err(2));
+    assert_eq!(string_refusal(&log, 64, 0), 0);
+    assert_eq!(string_refusal(&log, 64, u32::MAX), 17);
+}
+
+#[test]
+fn refused() {
+    for (number, bytes) in [
+        (1, vec![]),
+        (1, S[..63].to_vec()),
+        (2, put(&S, 0, 60)),
+        (3, T[..103].to_vec()),
+        (4, put(&T, 4, 0)),
+        (5, put(&T, 100, 100)),
+        (6, put(&T, 24, 3)),
+        (6, put(&T, 24, 32)),
+        (7, put(&T, 31, 0x40)),
+        (8, put(&put(&T, 26, 1), 27, 1)),
+        (9, put(&S, 56, 1)),
+        (10, put(&T, 44, 77)),
+        (11, put(&T, 36, 90)),
+        (12, put(&T, 52, 95)),
+        (13, put(&T, 48, 2)),
+    ] {
+        let at = 0;
+        assert_eq!(step(&bytes, at), Err(Refusal { number, at }));
+        assert_eq!(refusal(&bytes, at), number);
+    }
+    assert_eq!(refusal(&put(&T, 24, 16), 0), 0);
+    assert_eq!(refusal(&put(&T, 31, 0x80), 0), 0);
+    let number = refused::PLACE;
+    for at in [65, usize::MAX] {
+        assert_eq!(step(&S, at), Err(Refusal { number, at }));
+        assert_eq!(step_back(&S, at), Err(Refusal { number, at }));
+    }
+}
+
+#[test]
+fn walked_and_listed() {
+    let log = s_t();
+    let whole = Walked {
+        count: 2,
+        refusal: 0,
+    };
+    assert_eq!((walk(&log), walk_back(&log)), (whole, whole));
+    assert_eq!(walk(&[]), Walked::default());
+    let cut = Walked {
+        count: 1,
+        refusal: 3,
+    };
+    assert_eq!(walk(&log[..167]), cut);
+
+    let text = |s: &[u8]| {
+        let mut out = vec![b'x'; s.len() + 64];
+        let length = listing(s, &mut out).unwrap();
+        assert!(out[length..].iter().all(|b| *b == b'x'));
+        String::from_utf8(out[..length].to_vec()).unwrap()
+    };
+    assert_eq!(text(&log), "records 2\n0 64 7\n64 104 8\n");
+    assert_eq!(text(&log[..167]), "refused 3 at 64\n");
+    assert_eq!(text(&[]), "records 0\n");
+    assert_eq!(listing(&log, &mut [0; 168 + 63]), Err(15));
+}
+
+#[test]
+fn written_and_appended() {
+    let mut out = [0xAA; 110];
+    assert_eq!(write(&t_event(), &mut out), Ok(104));
+    assert_eq!((&out[..104], &out[104..]), (&T[..], &[0xAA; 6][..]));
+    assert_eq!(write(&t_event(), &mut [0; 103]), Err(15));
+    assert_eq!(write(&s_event(), &mut []), Err(15));
+
+    let mut log = [0; 200];
+    log[..64].copy_from_slice(&S);
+    assert_eq!(append(&mut log, 64, &t_event()), Ok(168));
+    assert_eq!(log[..168], s_t());
+    assert_eq!(append(&mut log, 168, &t_event()), Err(15));
+    assert_eq!(append(&mut log, 167, &t_event()), Err(14));
+    assert_eq!(append(&mut log, 201, &t_event()), Err(1));
+    assert_eq!(append(&mut log, 0, &s_event()), Ok(64));
+    assert_eq!(step(&log, 0).unwrap().fields.record_number, 1);
+}
+
+#[test]
+fn served() {
+    let log = s_t();
+    let mut out = [0xAA; 200];
+    let answer = |status, read, needed, place| Answer {
+        status,
+        read,
+        needed,
+        handle: Handle { place },
+    };
+    let first = Handle::fresh().read(&log, 5, 0, 64, &mut out);
+    assert_eq!(first, answer(0, 64, 0, Place::Boundary(64)));
+    assert_eq!((&out[..64], out[64]), (&S[..], 0xAA));
+    let small = first.handle.read(&log, 5, 0, 103, &mut out);
+    let too_small = status::BUFFER_TOO_SMALL;
+    assert_eq!(small, answer(too_small, 0, 104, Place::Boundary(64)));
+
+    let back = Handle::fresh().read(&log, 9, 0, 168, &mut out);
+    assert_eq!(back, answer(0, 168, 0, Place::Boundary(0)));
+    assert_eq!(out[..168], [&T[..], &S[..]].concat());
+    let end = back.handle.read(&log, 9, 0, 168, &mut out);
+    assert_eq!(end, answer(status::END_OF_FILE, 0, 0, Place::Boundary(0)));
+
+    let none = Handle::fresh().read(&log, 6, 9, 168, &mut out);
+    assert_eq!(none, answer(status::INVALID_PARAMETER, 0, 0, Place::Fresh));
+    let seek = Handle::fresh().read(&log, 6, 8, 168, &mut out);
+    assert_eq!(seek, answer(0, 104, 0, Place::Boundary(168)));
+}

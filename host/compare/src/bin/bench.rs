@@ -1,0 +1,177 @@
+//! How long both libraries take; run on request:
+//! `cargo run --release --offline --bin bench`.
+
+use std::hint::black_box;
+use std::time::{Duration, Instant};
+
+use compare::make::{text, Made};
+use compare::random::Random;
+
+const BATCH: usize = 16 << 20;
+const READ: usize = 64 << 10;
+const ROUNDS: usize = 40;
+const END_OF_FILE: u32 = 0xC000_0011;
+/// Names alone are short work: many walks of one record.
+const NAME_WALKS: usize = 1000;
+
+/// Records of about this Length, as many as fit into a batch.
+fn batch(rng: &mut Random, length: usize) -> Vec<u8> {
+    let mut out = Vec::with_capacity(BATCH);
+    for number in 1.. {
+        let mut made = Made::default();
+        made.fields.record_number = number;
+        if length < 500 {
+            made.source = text(rng, 5);
+            made.computer = text(rng, 4);
+        } else {
+            made.source = text(rng, 12);
+            made.computer = text(rng, 10);
+            made.sid = [&[1, 5][..], &rng.bytes(26)].concat();
+            for _ in 0..6 {
+                made.strings.extend(text(rng, 20));
+                made.strings.extend([0, 0]);
+                made.fields.num_strings += 1;
+            }
+        }
+        let more = length.saturating_sub(made.length()) + rng.below(16);
+        made.data = rng.bytes(more);
+        if out.len() + made.length() > BATCH {
+            break;
+        }
+        out.extend(made.encode(None));
+    }
+    out
+}
+
+/// One record whose source name is this long.
+fn long_name(rng: &mut Random, units: usize) -> Vec<u8> {
+    let made = Made {
+        source: text(rng, units),
+        ..Made::default()
+    };
+    made.encode(None)
+}
+
+/// Reads the whole log, one direction; answers the bytes read.
+fn serve_proved(log: &[u8], flags: u32, out: &mut [u8]) -> usize {
+    let mut handle = eventlog::Handle::fresh();
+    let mut sum = 0;
+    loop {
+        let answer = handle.read(log, flags, 0, out.len(), out);
+        if answer.status != 0 {
+            assert_eq!((answer.status, sum), (END_OF_FILE, log.len()));
+            return sum;
+        }
+        sum += answer.read;
+        handle = answer.handle;
+    }
+}
+
+fn serve_plain(log: &[u8], flags: u32, out: &mut [u8]) -> usize {
+    let mut handle = plain::Handle::fresh();
+    let mut sum = 0;
+    loop {
+        let answer = handle.read(log, flags, 0, out.len(), out);
+        if answer.status != 0 {
+            assert_eq!((answer.status, sum), (END_OF_FILE, log.len()));
+            return sum;
+        }
+        sum += answer.read;
+        handle = answer.handle;
+    }
+}
+
+fn timed(work: &mut dyn FnMut() -> usize) -> (Duration, usize) {
+    let start = Instant::now();
+    let answer = work();
+    (start.elapsed(), answer)
+}
+
+/// Both in turn, changing which goes first; the minima of all rounds.
+fn row(
+    name: &str,
+    records: usize,
+    proved: &mut dyn FnMut() -> usize,
+    plain: &mut dyn FnMut() -> usize,
+) {
+    let mut best = [Duration::MAX; 2];
+    // One round more, to warm up.
+    for round in 0..=ROUNDS {
+        let (a, b) = if round % 2 == 0 {
+            let a = timed(proved);
+            (a, timed(plain))
+        } else {
+            let b = timed(plain);
+            (timed(proved), b)
+        };
+        assert_eq!(a.1, b.1, "{name}: the answers differ");
+        if round > 0 {
+            best = [best[0].min(a.0), best[1].min(b.0)];
+        }
+    }
+    let [proved, plain] = best.map(|t| t.as_secs_f64());
+    println!(
+        "{name:36} {:9.3} {:9.3} {:8.0} {:8.0} {:6.2}",
+        proved * 1e3,
+        plain * 1e3,
+        proved * 1e9 / records as f64,
+        plain * 1e9 / records as f64,
+        proved / plain
+    );
+}
+
+fn main() {
+    let mut rng = Random::new(1);
+    println!(
+        "Minima of {ROUNDS} rounds, both versions in turn. A batch has 16 MiB; reads ask 64 KiB."
+    );
+    println!("The output is not cleared between reads.");
+    println!("ns are for each record, the ratio is proved / plain.");
+    println!(
+        "{:36} {:>9} {:>9} {:>8} {:>8} {:>6}",
+        "", "proved ms", "plain ms", "ns", "ns", "ratio"
+    );
+    let mut out = vec![0; READ];
+    for (name, length) in [("100 bytes", 100), ("1 KiB", 1024), ("60 KiB", 60 << 10)] {
+        let log = batch(&mut rng, length);
+        let log = &log[..];
+        let records = plain::walk(log).count;
+        row(
+            &format!("walk, records of {name}"),
+            records,
+            &mut || eventlog::walk(black_box(log)).count,
+            &mut || plain::walk(black_box(log)).count,
+        );
+        row(
+            &format!("walk back, records of {name}"),
+            records,
+            &mut || eventlog::walk_back(black_box(log)).count,
+            &mut || plain::walk_back(black_box(log)).count,
+        );
+        for (direction, flags) in [("forwards", 5), ("backwards", 9)] {
+            let mut other = out.clone();
+            row(
+                &format!("read {direction}, records of {name}"),
+                records,
+                &mut || serve_proved(black_box(log), flags, &mut out),
+                &mut || serve_plain(black_box(log), flags, &mut other),
+            );
+        }
+    }
+    let record = long_name(&mut rng, 30_000);
+    let record = &record[..];
+    row(
+        "name of 30,000 units, 1000 times",
+        NAME_WALKS,
+        &mut || {
+            (0..NAME_WALKS)
+                .map(|_| eventlog::walk(black_box(record)).count)
+                .sum()
+        },
+        &mut || {
+            (0..NAME_WALKS)
+                .map(|_| plain::walk(black_box(record)).count)
+                .sum()
+        },
+    );
+}

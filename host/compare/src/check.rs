@@ -1,0 +1,506 @@
+//! One input given to both libraries; a difference panics.
+
+use std::fmt::{Debug, Write};
+
+use crate::make::Made;
+
+/// The calls that refuse.
+#[derive(Clone, Copy, Debug, PartialEq, Eq)]
+pub enum Call {
+    Step,
+    StepBack,
+    String,
+    Walk,
+    WalkBack,
+    Write,
+    Append,
+    Listing,
+}
+
+pub const CALLS: usize = Call::Listing as usize + 1;
+
+/// The six statuses.
+pub const STATUSES: [u32; 6] = [
+    0,
+    0xC000_000D,
+    0xC000_0008,
+    0xC000_018E,
+    0xC000_0011,
+    0xC000_0023,
+];
+
+/// The four good flags; all others count as one kind more.
+pub const FLAGS: [u32; 4] = [5, 9, 6, 10];
+
+/// What was compared, and with which answers.
+#[derive(Clone, Debug, Default)]
+pub struct Tally {
+    /// Calls of step and step_back.
+    pub judged: u64,
+    pub calls: u64,
+    /// By call and refusal, 0 for none.
+    pub refusals: [[u64; 18]; CALLS],
+    /// By kind of flags and status.
+    pub statuses: [[u64; 6]; 5],
+    /// Appends behind the number 4,294,967,295.
+    pub wrapped: u64,
+}
+
+impl Tally {
+    pub fn add(&mut self, other: &Tally) {
+        self.judged += other.judged;
+        self.calls += other.calls;
+        self.wrapped += other.wrapped;
+        let more = other.refusals.as_flattened();
+        for (sum, n) in self.refusals.as_flattened_mut().iter_mut().zip(more) {
+            *sum += n;
+        }
+        let more = other.statuses.as_flattened();
+        for (sum, n) in self.statuses.as_flattened_mut().iter_mut().zip(more) {
+            *sum += n;
+        }
+    }
+
+    pub fn met(&self, call: Call, number: u32) -> u64 {
+        self.refusals[call as usize][number as usize]
+    }
+}
+
+/// Where a part lies: the place told, where the slice itself lies in the
+/// buffer, and its length. The same place and length are the same bytes.
+#[derive(Debug, PartialEq, Eq)]
+struct Lies {
+    told: usize,
+    at: usize,
+    len: usize,
+}
+
+fn lies(s: &[u8], part: &[u8], told: usize) -> Lies {
+    let at = (part.as_ptr() as usize).wrapping_sub(s.as_ptr() as usize);
+    Lies {
+        told,
+        at,
+        len: part.len(),
+    }
+}
+
+/// A record of either library.
+#[derive(Debug, PartialEq, Eq)]
+struct Seen {
+    start: usize,
+    length: usize,
+    fields: plain::Fields,
+    source_name: Lies,
+    computer_name: Lies,
+    sid: Lies,
+    strings: Lies,
+    event_data: Lies,
+}
+
+type Answered = Result<Seen, (u32, usize)>;
+
+fn seen_proved(s: &[u8], answer: Result<eventlog::Record, eventlog::Refusal>) -> Answered {
+    let r = answer.map_err(|r| (r.number, r.at))?;
+    Ok(Seen {
+        start: r.start,
+        length: r.length,
+        fields: plain::Fields {
+            record_number: r.fields.record_number,
+            time_generated: r.fields.time_generated,
+            time_written: r.fields.time_written,
+            event_id: r.fields.event_id,
+            event_type: r.fields.event_type,
+            num_strings: r.fields.num_strings,
+            event_category: r.fields.event_category,
+            reserved_flags: r.fields.reserved_flags,
+        },
+        source_name: lies(s, r.source_name, r.source_name_at),
+        computer_name: lies(s, r.computer_name, r.computer_name_at),
+        sid: lies(s, r.sid, r.sid_at),
+        strings: lies(s, r.strings, r.strings_at),
+        event_data: lies(s, r.event_data, r.event_data_at),
+    })
+}
+
+fn seen_plain(s: &[u8], answer: Result<plain::Record, plain::Refusal>) -> Answered {
+    let r = answer.map_err(|r| (r.number, r.at))?;
+    Ok(Seen {
+        start: r.start,
+        length: r.length,
+        fields: r.fields,
+        source_name: lies(s, r.source_name, r.source_name_at),
+        computer_name: lies(s, r.computer_name, r.computer_name_at),
+        sid: lies(s, r.sid, r.sid_at),
+        strings: lies(s, r.strings, r.strings_at),
+        event_data: lies(s, r.event_data, r.event_data_at),
+    })
+}
+
+/// A handle of both libraries.
+#[derive(Clone, Copy, Debug)]
+pub struct Handles {
+    pub proved: eventlog::Handle,
+    pub plain: plain::Handle,
+}
+
+impl Handles {
+    pub fn fresh() -> Self {
+        Handles {
+            proved: eventlog::Handle::fresh(),
+            plain: plain::Handle::fresh(),
+        }
+    }
+
+    pub fn boundary(at: usize) -> Self {
+        Handles {
+            proved: eventlog::Handle {
+                place: eventlog::Place::Boundary(at),
+            },
+            plain: plain::Handle {
+                place: plain::Place::Boundary(at),
+            },
+        }
+    }
+}
+
+fn place(handle: eventlog::Handle) -> plain::Handle {
+    let place = match handle.place {
+        eventlog::Place::Fresh => plain::Place::Fresh,
+        eventlog::Place::Boundary(at) => plain::Place::Boundary(at),
+    };
+    plain::Handle { place }
+}
+
+/// A read request.
+#[derive(Clone, Copy, Debug)]
+pub struct Request {
+    pub flags: u32,
+    pub number: u32,
+    pub size: usize,
+    pub out: usize,
+}
+
+fn hex(bytes: &[u8]) -> String {
+    let mut text = String::with_capacity(bytes.len() * 2);
+    for byte in bytes {
+        let _ = write!(text, "{byte:02x}");
+    }
+    text
+}
+
+/// Compares, counts, and says where it is when there is a difference.
+pub struct Check {
+    label: String,
+    pub tally: Tally,
+    fill: u8,
+    out: [Vec<u8>; 2],
+}
+
+impl Check {
+    pub fn new(label: String) -> Self {
+        Check {
+            label,
+            tally: Tally::default(),
+            fill: 0,
+            out: Default::default(),
+        }
+    }
+
+    #[cold]
+    fn differ(&self, call: &str, inputs: &[&[u8]], proved: &dyn Debug, plain: &dyn Debug) -> ! {
+        let mut text = format!("difference in {call} ({})\n", self.label);
+        for input in inputs {
+            let _ = writeln!(text, "input, {} bytes: {}", input.len(), hex(input));
+        }
+        panic!("{text}proved: {proved:?}\nplain:  {plain:?}");
+    }
+
+    fn count(&mut self, call: Call, number: u32) {
+        self.tally.calls += 1;
+        self.tally.refusals[call as usize][number.min(17) as usize] += 1;
+    }
+
+    /// step at a place. Answers the number of strings where it is good.
+    pub fn step(&mut self, s: &[u8], at: usize) -> Option<u32> {
+        let proved = seen_proved(s, eventlog::step(s, at));
+        let plain = seen_plain(s, plain::step(s, at));
+        if proved != plain {
+            self.differ(&format!("step at {at}"), &[s], &proved, &plain);
+        }
+        let number = proved.as_ref().err().map_or(0, |r| r.0);
+        let refusals = (eventlog::refusal(s, at), plain::refusal(s, at));
+        if refusals != (number, number) {
+            self.differ(&format!("refusal at {at}"), &[s], &refusals.0, &refusals.1);
+        }
+        self.tally.judged += 1;
+        self.count(Call::Step, number);
+        proved.ok().map(|seen| u32::from(seen.fields.num_strings))
+    }
+
+    /// step_back at a place.
+    pub fn step_back(&mut self, s: &[u8], end: usize) {
+        let proved = seen_proved(s, eventlog::step_back(s, end));
+        let plain = seen_plain(s, plain::step_back(s, end));
+        if proved != plain {
+            self.differ(&format!("step_back at {end}"), &[s], &proved, &plain);
+        }
+        self.tally.judged += 1;
+        self.count(Call::StepBack, proved.err().map_or(0, |r| r.0));
+    }
+
+    /// String `k` of the record at a place.
+    pub fn string(&mut self, s: &[u8], at: usize, k: u32) {
+        let number = plain::string_refusal(s, at, k);
+        let plain = match number {
+            0 => Ok(lies(s, plain::string(s, at, k), 0)),
+            number => Err(number),
+        };
+        let proved = eventlog::string(s, at, k).map(|string| lies(s, string, 0));
+        let told = eventlog::string_refusal(s, at, k);
+        if proved != plain || told != number {
+            self.differ(
+                &format!("string {k} at {at}"),
+                &[s],
+                &(proved, told),
+                &(plain, number),
+            );
+        }
+        if number != 0 && !plain::string(s, at, k).is_empty() {
+            self.differ(
+                &format!("string {k} at {at}"),
+                &[s],
+                &proved,
+                &"a part although refused",
+            );
+        }
+        self.count(Call::String, number);
+    }
+
+    /// Both steps at a place, and some strings.
+    pub fn at(&mut self, s: &[u8], at: usize) {
+        if let Some(strings) = self.step(s, at) {
+            self.string(s, at, 0);
+            if strings > 0 {
+                self.string(s, at, strings / 2);
+                self.string(s, at, strings - 1);
+                self.string(s, at, strings);
+            }
+        }
+        self.step_back(s, at);
+    }
+
+    /// Both walks.
+    pub fn walks(&mut self, s: &[u8]) {
+        let proved = [eventlog::walk(s), eventlog::walk_back(s)].map(|w| (w.count, w.refusal));
+        let plain = [plain::walk(s), plain::walk_back(s)].map(|w| (w.count, w.refusal));
+        if proved != plain {
+            self.differ("walk, walk_back", &[s], &proved, &plain);
+        }
+        self.count(Call::Walk, plain[0].1);
+        self.count(Call::WalkBack, plain[1].1);
+    }
+
+    /// A whole buffer: steps and strings at its ends, both walks, the parts by
+    /// place, the listing.
+    pub fn buffer(&mut self, s: &[u8]) {
+        let strings = self.step(s, 0);
+        for k in [0, 1, 2, 255, 256, 257, u32::MAX] {
+            self.string(s, 0, k);
+        }
+        if let Some(n @ 1..) = strings {
+            self.string(s, 0, n / 2);
+            self.string(s, 0, n - 1);
+            self.string(s, 0, n);
+        }
+        self.step_back(s, s.len());
+        self.walks(s);
+        self.parts(s, 0);
+        self.listing(s, s.len() + 64);
+    }
+
+    /// The plain library's parts by place, against the proved record's.
+    fn parts(&mut self, s: &[u8], at: usize) {
+        let plain = [
+            plain::source_name(s, at),
+            plain::computer_name(s, at),
+            plain::sid(s, at),
+            plain::event_data(s, at),
+        ];
+        let proved = eventlog::step(s, at).map_or([&[][..]; 4], |r| {
+            [r.source_name, r.computer_name, r.sid, r.event_data]
+        });
+        if proved != plain {
+            self.differ(&format!("parts at {at}"), &[s], &proved, &plain);
+        }
+    }
+
+    /// Both outputs of this length, filled alike.
+    fn outputs(&mut self, len: usize) -> [Vec<u8>; 2] {
+        self.fill = self.fill.wrapping_mul(5).wrapping_add(0x37);
+        let mut outputs = std::mem::take(&mut self.out);
+        for out in &mut outputs {
+            out.clear();
+            out.resize(len, self.fill);
+        }
+        outputs
+    }
+
+    /// Compares both outputs and what must be as it was filled.
+    fn same_outputs(&mut self, call: &str, inputs: &[&[u8]], out: [Vec<u8>; 2], used: usize) {
+        if out[0] != out[1] {
+            let at = out[0].iter().zip(&out[1]).position(|(a, b)| a != b);
+            let shown = format!("{call}: outputs differ from byte {at:?} on");
+            self.differ(&shown, inputs, &hex(&out[0]), &hex(&out[1]));
+        }
+        let past = out[0].get(used..).unwrap_or_default();
+        if past.iter().any(|b| *b != self.fill) {
+            self.differ(
+                &format!("{call}: both change the output past {used}"),
+                inputs,
+                &hex(&out[0]),
+                &"",
+            );
+        }
+        self.out = out;
+    }
+
+    /// The listing into an output of a length.
+    pub fn listing(&mut self, s: &[u8], out_len: usize) {
+        let mut out = self.outputs(out_len);
+        let proved = eventlog::listing(s, &mut out[0]);
+        let plain = if out_len < s.len() + 64 {
+            Err(15)
+        } else {
+            let text = listing_text(s);
+            out[1][..text.len()].copy_from_slice(text.as_bytes());
+            Ok(text.len())
+        };
+        let call = format!("listing into {out_len}");
+        if proved != plain {
+            self.differ(&call, &[s], &proved, &plain);
+        }
+        self.same_outputs(&call, &[s], out, plain.unwrap_or(0));
+        self.count(Call::Listing, plain.err().unwrap_or(0));
+    }
+
+    /// Writing an event into an output of a length.
+    pub fn write(&mut self, event: &Made, out_len: usize) {
+        let mut out = self.outputs(out_len);
+        let proved = eventlog::write(&event.proved(), &mut out[0]);
+        let plain = plain::write(&event.plain(), &mut out[1]);
+        let call = format!("write into {out_len} of {:?}", event.fields);
+        let inputs = parts_of(event);
+        if proved != plain {
+            self.differ(&call, &inputs, &proved, &plain);
+        }
+        if let Ok(length) = plain {
+            let paper = event.encode(None);
+            if out[1].get(..length) != Some(&paper[..]) {
+                let other = "both differ from the paper's layout";
+                self.differ(&call, &inputs, &hex(&out[0]), &other);
+            }
+            self.step(&paper, 0);
+            self.step_back(&out[0], length);
+        }
+        self.same_outputs(&call, &inputs, out, plain.unwrap_or(0));
+        self.count(Call::Write, plain.err().unwrap_or(0));
+    }
+
+    /// Appending an event to a log; answers the new used length.
+    pub fn append(&mut self, log: &mut Vec<u8>, used: usize, event: &Made) -> Option<usize> {
+        let mut other = log.clone();
+        let old = log.clone();
+        let proved = eventlog::append(log, used, &event.proved());
+        let plain = plain::append(&mut other, used, &event.plain());
+        let call = format!("append behind {used} of {:?}", event.fields);
+        let parts = parts_of(event);
+        let inputs = [&old, parts[0], parts[1], parts[2], parts[3], parts[4]];
+        if proved != plain {
+            self.differ(&call, &inputs, &proved, &plain);
+        }
+        if *log != other {
+            self.differ(&call, &inputs, &hex(log), &hex(&other));
+        }
+        let written = plain.map_or(used..used, |end| used..end);
+        let kept = |range: std::ops::Range<usize>| log.get(range.clone()) == old.get(range);
+        if !kept(0..written.start) || !kept(written.end..old.len()) {
+            self.differ(&call, &inputs, &"both change other bytes", &hex(log));
+        }
+        if plain.is_ok() && used > 0 && log.get(used + 8..used + 12) == Some(&[0; 4]) {
+            self.tally.wrapped += 1;
+        }
+        self.count(Call::Append, plain.err().unwrap_or(0));
+        plain.ok()
+    }
+
+    /// A read; answers the next handles.
+    pub fn read(&mut self, handles: Handles, log: &[u8], request: Request) -> Handles {
+        let Request {
+            flags,
+            number,
+            size,
+            out,
+        } = request;
+        let mut out = self.outputs(out);
+        let proved = handles.proved.read(log, flags, number, size, &mut out[0]);
+        let plain = handles.plain.read(log, flags, number, size, &mut out[1]);
+        let seen = plain::Answer {
+            status: proved.status,
+            read: proved.read,
+            needed: proved.needed,
+            handle: place(proved.handle),
+        };
+        let call = || format!("read with {handles:?}, {request:?}");
+        if seen != plain {
+            self.differ(&call(), &[log], &seen, &plain);
+        }
+        let past = out[0].get(plain.read..).unwrap_or_default();
+        if out[0] != out[1] || past.iter().any(|b| *b != self.fill) {
+            self.same_outputs(&call(), &[log], out, plain.read);
+        } else {
+            self.out = out;
+        }
+        self.tally.calls += 1;
+        let kind = FLAGS.iter().position(|f| *f == flags).unwrap_or(4);
+        match STATUSES.iter().position(|s| *s == plain.status) {
+            Some(status) => self.tally.statuses[kind][status] += 1,
+            None => self.differ(&call(), &[log], &seen, &"no such status"),
+        }
+        Handles {
+            proved: proved.handle,
+            plain: plain.handle,
+        }
+    }
+}
+
+fn parts_of(event: &Made) -> [&[u8]; 5] {
+    [
+        &event.source,
+        &event.computer,
+        &event.sid,
+        &event.strings,
+        &event.data,
+    ]
+}
+
+/// The plain listing. Its limit of 65,536 bytes is the listing program's, not
+/// the proved call's, so a longer batch is listed from plain steps.
+fn listing_text(s: &[u8]) -> String {
+    if s.len() <= plain::MAX_LISTED {
+        return plain::listing(s);
+    }
+    let mut lines = String::new();
+    let (mut at, mut count) = (0, 0);
+    while at < s.len() {
+        match plain::step(s, at) {
+            Ok(r) => {
+                let number = r.fields.record_number;
+                let _ = writeln!(lines, "{} {} {number}", r.start, r.length);
+                at += r.length;
+            }
+            Err(r) => return format!("refused {} at {}\n", r.number, r.at),
+        }
+        count += 1;
+    }
+    format!("records {count}\n{lines}")
+}

@@ -1,0 +1,381 @@
+//! The proved library (`eventlog`) compared with the plain one on made inputs.
+//!
+//! Work is cut into rounds of a family of inputs; each has its own seed, so a
+//! difference names the round that shows it again.
+
+pub mod check;
+pub mod make;
+pub mod random;
+
+use check::{Check, Handles, Request, Tally};
+use make::{Made, Size, FIELDS};
+use random::Random;
+
+/// A kind of inputs: its name and one round of it.
+pub type Family = (&'static str, fn(&mut Random, &mut Check));
+
+/// All kinds of inputs, those with short ones first.
+pub const FAMILIES: [Family; 9] = [
+    ("fields", fields),
+    ("bytes", bytes),
+    ("cuts", cuts),
+    ("noise", noise),
+    ("logs", logs),
+    ("appends", appends),
+    ("reads", reads),
+    ("writes", writes),
+    ("limits", limits),
+];
+
+/// One round of a family.
+pub fn round(family: usize, round: u64) -> Tally {
+    let (name, run) = FAMILIES[family];
+    let mut rng = Random::new((family as u64) << 56 ^ round);
+    let mut check = Check::new(format!("family {name}, round {round}"));
+    run(&mut rng, &mut check);
+    check.tally
+}
+
+fn some_size(rng: &mut Random) -> Size {
+    match rng.below(12) {
+        0 => Size::Medium,
+        _ => Size::Small,
+    }
+}
+
+/// Every fixed field and Length2 of a record, set to boundary values.
+fn fields(rng: &mut Random, check: &mut Check) {
+    for _ in 0..3 {
+        let size = if rng.once_in(8) {
+            Size::Medium
+        } else {
+            Size::Small
+        };
+        let good = make::record(rng, size);
+        // Bytes behind it, so that a longer Length still fits.
+        let len = rng.pick(&[0, 4, 200]);
+        let behind = rng.bytes(len);
+        let whole = [&good[..], &behind].concat();
+        check.buffer(&good);
+        let length = good.len() as u32;
+        let length2 = (good.len() - 4, 4);
+        for (at, size) in FIELDS.into_iter().chain([length2]) {
+            for value in make::boundary_values(make::get(&good, at, size), length) {
+                let mut changed = whole.clone();
+                make::put(&mut changed, at, size, value);
+                check.at(&changed, 0);
+                check.step_back(&changed, good.len());
+                if at == 0 {
+                    // Length and Length2 both, wherever that then lies.
+                    let length2 = (value as usize).saturating_sub(4);
+                    make::put(&mut changed, length2, 4, value);
+                    check.at(&changed, 0);
+                    check.step_back(&changed, value as usize);
+                }
+                if value % 16 == 3 {
+                    check.buffer(&changed[..good.len()]);
+                }
+            }
+        }
+    }
+}
+
+/// Byte flips: every byte of small records, some of longer ones.
+fn bytes(rng: &mut Random, check: &mut Check) {
+    let good = make::record(rng, Size::Small);
+    for at in 0..good.len() {
+        let old = good[at];
+        let bit = 1 << rng.below(8);
+        for value in [0, 0xFF, old ^ 1, old ^ bit, old.wrapping_add(1)] {
+            let mut changed = good.clone();
+            changed[at] = value;
+            check.at(&changed, 0);
+            check.step_back(&changed, changed.len());
+        }
+    }
+    for _ in 0..300 {
+        let size = some_size(rng);
+        let mut changed = make::record(rng, size);
+        make::damage(rng, &mut changed);
+        check.buffer(&changed);
+    }
+}
+
+/// Truncations, more bytes, any places.
+fn cuts(rng: &mut Random, check: &mut Check) {
+    let good = match rng.once_in(3) {
+        true => make::nested(rng),
+        false => make::record(rng, Size::Small),
+    };
+    let before = rng.below(9);
+    let mut whole = rng.bytes(before);
+    whole.extend(&good);
+    let behind = rng.below(9);
+    whole.extend(rng.bytes(behind));
+    for len in 0..=good.len() {
+        check.buffer(&good[..len]);
+        check.buffer(&good[len..]);
+    }
+    for at in 0..=whole.len() + 2 {
+        check.at(&whole, at);
+    }
+    for at in [
+        1 << 31,
+        1 << 32,
+        usize::MAX - 63,
+        usize::MAX - 1,
+        usize::MAX,
+    ] {
+        check.at(&whole, at);
+        check.string(&whole, at, 0);
+    }
+    let longer = make::record(rng, Size::Medium);
+    for _ in 0..20 {
+        let len = rng.below(longer.len() + 1);
+        check.buffer(&longer[..len]);
+        check.step_back(&longer, len);
+    }
+}
+
+/// Several records, in order or broken, and records inside data.
+fn logs(rng: &mut Random, check: &mut Check) {
+    for _ in 0..20 {
+        let count = rng.below(9);
+        let size = some_size(rng);
+        let broken = rng.once_in(2);
+        let (log, places) = make::log(rng, count, size, broken);
+        check.buffer(&log);
+        let less = rng.below(100);
+        check.listing(&log, (log.len() + 64).saturating_sub(less));
+        for at in places {
+            check.at(&log, at);
+            for _ in 0..3 {
+                let near = (at + rng.below(9)).saturating_sub(4);
+                check.at(&log, near);
+            }
+        }
+        for _ in 0..10 {
+            let at = rng.below(log.len() + 2);
+            check.at(&log, at);
+        }
+        let (from, to) = (rng.below(log.len() + 1), rng.below(log.len() + 1));
+        check.buffer(&log[from.min(to)..from.max(to)]);
+    }
+    let nested = make::nested(rng);
+    for at in 0..=nested.len() {
+        check.at(&nested, at);
+    }
+}
+
+/// Plausible heads over bodies with many zero units, and mere bytes.
+fn noise(rng: &mut Random, check: &mut Check) {
+    for _ in 0..1500 {
+        let mut made = make::noise(rng);
+        if rng.once_in(8) {
+            make::damage(rng, &mut made);
+        }
+        check.at(&made, 0);
+        check.step_back(&made, made.len());
+        if rng.once_in(8) {
+            check.buffer(&made);
+        }
+    }
+    for _ in 0..100 {
+        let len = rng.below(200);
+        let made = rng.bytes(len);
+        check.buffer(&made);
+    }
+}
+
+/// The longest records, and small changes of them.
+fn limits(rng: &mut Random, check: &mut Check) {
+    for _ in 0..4 {
+        let mut made = Made::good(rng, Size::Large);
+        check.buffer(&made.encode(Some(rng)));
+        let out = made.length() - rng.below(2);
+        check.write(&made, out);
+        if rng.once_in(3) {
+            // One step too long, for the reader and the writer.
+            made.fit(rng, make::MAX_LENGTH + 4);
+            check.buffer(&made.encode(Some(rng)));
+            check.write(&made, make::MAX_LENGTH + 4);
+        }
+        let good = make::record(rng, Size::Large);
+        check.buffer(&good);
+        for _ in 0..12 {
+            changed_large(rng, check, &good);
+        }
+    }
+}
+
+fn changed_large(rng: &mut Random, check: &mut Check, good: &[u8]) {
+    let mut changed = good.to_vec();
+    match rng.below(4) {
+        0 | 1 => {
+            let length2 = (good.len() - 4, 4);
+            let (at, size) = rng.pick(&[&FIELDS[..], &[length2]].concat());
+            let old = make::get(good, at, size);
+            let value = rng.pick(&make::boundary_values(old, good.len() as u32));
+            make::put(&mut changed, at, size, value);
+        }
+        2 => make::damage(rng, &mut changed),
+        _ => {
+            let len = rng.below(changed.len());
+            changed.truncate(len);
+        }
+    }
+    check.step(&changed, 0);
+    check.step_back(&changed, changed.len());
+    check.walks(&changed);
+    let k = rng.below(300) as u32;
+    check.string(&changed, 0, k);
+}
+
+/// Any event, into an output of any size.
+fn writes(rng: &mut Random, check: &mut Check) {
+    for i in 0..400 {
+        let size = match i {
+            0 => Size::Large,
+            _ => some_size(rng),
+        };
+        let event = match rng.once_in(3) {
+            true => Made::good(rng, size),
+            false => Made::bad(rng, size),
+        };
+        let length = event.length();
+        let out = match rng.below(8) {
+            0 => rng.pick(&[0, 1, 56, 63, 64, 65]),
+            1 => length - 1,
+            2 => length + 1,
+            3 => rng.below(length),
+            4 => length + rng.below(100),
+            _ => length,
+        };
+        check.write(&event, out);
+    }
+}
+
+/// Appends behind any used length, to good and broken logs.
+fn appends(rng: &mut Random, check: &mut Check) {
+    for _ in 0..100 {
+        let count = rng.below(4);
+        let broken = rng.once_in(4);
+        let (mut log, places) = make::log(rng, count, Size::Small, broken);
+        if let (Some(last), true) = (places.iter().rev().nth(1), rng.once_in(4)) {
+            make::put(&mut log, last + 8, 4, u32::MAX);
+        }
+        let end = log.len();
+        let room = rng.below(700);
+        log.extend(rng.bytes(room));
+        let mut used = match rng.below(10) {
+            0 => 0,
+            1 => rng.below(log.len() + 1),
+            2 => rng.pick(&[log.len(), log.len() + 1, usize::MAX, usize::MAX - 63]),
+            3 => rng.pick(&places),
+            4 => (end + rng.below(9)).saturating_sub(4),
+            _ => end,
+        };
+        for i in 0..5 {
+            let size = if i == 4 { some_size(rng) } else { Size::Small };
+            let event = match rng.once_in(4) {
+                true => Made::bad(rng, size),
+                false => Made::good(rng, size),
+            };
+            if rng.once_in(8) {
+                // Exactly as much room as it takes, or one byte less.
+                let len = used.saturating_add(event.length()) - rng.below(2);
+                log.resize(len.min(log.len() + 2000), 0);
+            }
+            if let Some(now) = check.append(&mut log, used, &event) {
+                used = now;
+            }
+        }
+        if used <= log.len() {
+            check.walks(&log[..used]);
+            check.step_back(&log, used);
+        }
+    }
+}
+
+/// Lists of reads over a log, one handle after the other.
+fn reads(rng: &mut Random, check: &mut Check) {
+    for i in 0..30 {
+        let broken = rng.once_in(3);
+        let (count, size) = match i {
+            0 if rng.once_in(6) => (rng.range(9, 14), Size::Large),
+            1 => (rng.below(12), Size::Medium),
+            _ => (rng.below(14), Size::Small),
+        };
+        let (log, places) = make::log(rng, count, size, broken);
+        check.walks(&log);
+        let mut handles = Handles::fresh();
+        let mut flags = rng.pick(&check::FLAGS);
+        let list = match size {
+            Size::Large => 12,
+            _ => rng.pick(&[1, 5, 40, 40, 150]),
+        };
+        for _ in 0..list {
+            if rng.once_in(12) {
+                handles = match rng.below(4) {
+                    0 => Handles::fresh(),
+                    1 => Handles::boundary(rng.below(log.len() + 3)),
+                    2 => Handles::boundary(rng.pick(&places)),
+                    _ => Handles::boundary(rng.pick(&[
+                        log.len(),
+                        log.len() + 1,
+                        usize::MAX,
+                        1 << 32,
+                    ])),
+                };
+            }
+            // Mostly on in the same way; sometimes a turn, a seek, wrong flags.
+            match rng.below(10) {
+                0 => flags = rng.pick(&check::FLAGS),
+                1 => flags = (12 - (flags & 12)) | 1,
+                2 => flags = (flags & 12) | 1,
+                _ => {}
+            }
+            let asked = match rng.below(16) {
+                0 => rng.below(33) as u32,
+                1 => flags | 1 << rng.below(32),
+                _ => flags,
+            };
+            let (from, to) = (rng.pick(&places), rng.pick(&places));
+            let span = from.abs_diff(to);
+            let wanted = match rng.below(12) {
+                0 => 0,
+                1 => span.saturating_sub(1),
+                2 => span + 1,
+                3 => rng.below(log.len() + 1),
+                4 => log.len(),
+                5 => rng.pick(&[63, 64, 65, 100, 65_532]),
+                6 if rng.once_in(8) => rng.pick(&[524_286, 524_287, 524_288, 600_000]),
+                7 if rng.once_in(4) => rng.pick(&[usize::MAX, 1 << 32, 1 << 31]),
+                8 => rng.range(64, 400),
+                _ => span,
+            };
+            let out = match rng.below(12) {
+                _ if wanted > 1_000_000 => rng.below(300),
+                0 => wanted.saturating_sub(1),
+                1 => rng.below(wanted + 1),
+                2 | 3 => wanted + rng.below(100),
+                _ => wanted,
+            };
+            let number = match rng.below(4) {
+                0 => rng.bits() as u32,
+                1 => rng.below(6) as u32,
+                _ => match from + 12 <= log.len() {
+                    true => make::get(&log, from + 8, 4),
+                    false => 0,
+                },
+            };
+            let request = Request {
+                flags: asked,
+                number,
+                size: wanted,
+                out,
+            };
+            handles = check.read(handles, &log, request);
+        }
+    }
+}

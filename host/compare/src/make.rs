@@ -1,0 +1,624 @@
+//! Events, records, logs and their damage.
+
+use crate::random::Random;
+
+/// The longest record.
+pub const MAX_LENGTH: usize = 65_532;
+/// The most data.
+pub const MAX_DATA: usize = 61_440;
+
+/// How long an event's parts are.
+#[derive(Clone, Copy, Debug, PartialEq, Eq)]
+pub enum Size {
+    Small,
+    Medium,
+    Large,
+}
+
+/// An event that owns its parts.
+#[derive(Clone, Default)]
+pub struct Made {
+    pub fields: plain::Fields,
+    pub source: Vec<u8>,
+    pub computer: Vec<u8>,
+    pub sid: Vec<u8>,
+    pub strings: Vec<u8>,
+    pub data: Vec<u8>,
+}
+
+/// The fixed fields: place and size. Length2 has no fixed place.
+pub const FIELDS: [(usize, usize); 16] = [
+    (0, 4),
+    (4, 4),
+    (8, 4),
+    (12, 4),
+    (16, 4),
+    (20, 4),
+    (24, 2),
+    (26, 2),
+    (28, 2),
+    (30, 2),
+    (32, 4),
+    (36, 4),
+    (40, 4),
+    (44, 4),
+    (48, 4),
+    (52, 4),
+];
+
+const TYPES: [u16; 6] = [0, 1, 2, 4, 8, 16];
+
+fn aligned(place: usize) -> usize {
+    place.next_multiple_of(4)
+}
+
+/// Units, none of them zero.
+pub fn text(rng: &mut Random, units: usize) -> Vec<u8> {
+    let kind = rng.below(3);
+    let mut out = Vec::with_capacity(units * 2);
+    let mut bits = 0;
+    for i in 0..units {
+        if i % 4 == 0 {
+            bits = rng.bits();
+        }
+        let random = bits as u16;
+        bits >>= 16;
+        let unit = match kind {
+            0 => 0x41 + random % 26,
+            // Zero bytes next to each other that are no zero unit.
+            1 => [1, 0x100, 0x80, 0x8000, 0xFF, 0xFF00, 0x7FFF, 0x8001][usize::from(random % 8)],
+            _ => random.max(1),
+        };
+        out.extend_from_slice(&unit.to_le_bytes());
+    }
+    out
+}
+
+fn sid(rng: &mut Random) -> Vec<u8> {
+    let n = rng.range(0, 15);
+    let mut sid = rng.bytes(8 + 4 * n);
+    sid[0] = 1;
+    sid[1] = n as u8;
+    sid
+}
+
+fn number(rng: &mut Random) -> u32 {
+    match rng.below(4) {
+        0 => rng.pick(&[0, 1, 2, 0x7FFF_FFFF, 0x8000_0000, 0xFFFF_FFFE, 0xFFFF_FFFF]),
+        1 => rng.below(10) as u32,
+        _ => rng.bits() as u32,
+    }
+}
+
+impl Made {
+    /// An event that the writer accepts.
+    pub fn good(rng: &mut Random, size: Size) -> Made {
+        let fields = plain::Fields {
+            record_number: number(rng),
+            time_generated: number(rng),
+            time_written: number(rng),
+            event_id: number(rng),
+            event_type: rng.pick(&TYPES),
+            num_strings: 0,
+            event_category: rng.bits() as u16,
+            reserved_flags: rng.pick(&[0, 0x8000]),
+        };
+        let mut made = Made {
+            fields,
+            ..Made::default()
+        };
+        if rng.once_in(2) {
+            made.sid = sid(rng);
+        }
+        match size {
+            Size::Small => made.fill(rng, 6, 4, 5, 20),
+            Size::Medium => made.fill(rng, 150, 256, 9, 1500),
+            Size::Large => made.fill_large(rng),
+        }
+        made
+    }
+
+    fn fill(&mut self, rng: &mut Random, name: usize, count: usize, units: usize, data: usize) {
+        let units_of = |rng: &mut Random, most: usize| {
+            if rng.once_in(4) {
+                0
+            } else {
+                rng.range(0, most)
+            }
+        };
+        let n = units_of(rng, name);
+        self.source = text(rng, n);
+        let n = units_of(rng, name);
+        self.computer = text(rng, n);
+        let count = match rng.below(6) {
+            0 | 1 => 0,
+            2 => count,
+            _ => rng.range(0, count),
+        };
+        for _ in 0..count {
+            let n = units_of(rng, units);
+            self.push_string(rng, n);
+        }
+        let n = units_of(rng, data);
+        self.data = rng.bytes(n);
+    }
+
+    fn push_string(&mut self, rng: &mut Random, units: usize) {
+        self.strings.extend(text(rng, units));
+        self.strings.extend([0, 0]);
+        self.fields.num_strings += 1;
+    }
+
+    /// One part takes most of the room; often the Length is a limit exactly.
+    fn fill_large(&mut self, rng: &mut Random) {
+        self.fill(rng, 30, 3, 10, 50);
+        let room = MAX_LENGTH - 1000;
+        let n = match rng.below(3) {
+            0 => room,
+            1 => rng.range(room / 2, room),
+            _ => rng.range(2000, room),
+        };
+        match rng.below(5) {
+            0 => self.source = text(rng, n / 2),
+            1 => self.computer = text(rng, n / 2),
+            2 => self.push_string(rng, n / 2),
+            3 => {
+                self.strings.clear();
+                self.fields.num_strings = 0;
+                let count = rng.pick(&[255, 256, 256]);
+                for _ in 0..count {
+                    let units = rng.range(0, n / 2 / count);
+                    self.push_string(rng, units);
+                }
+            }
+            _ => {
+                let n = rng.pick(&[MAX_DATA, MAX_DATA - 1, n.min(MAX_DATA)]);
+                self.data = rng.bytes(n);
+            }
+        }
+        if rng.once_in(2) {
+            let length = rng.pick(&[MAX_LENGTH, MAX_LENGTH, MAX_LENGTH - 4]);
+            self.fit(rng, length);
+        }
+    }
+
+    /// Lengthens a name so that the Length is this one, where it is shorter.
+    pub fn fit(&mut self, rng: &mut Random, length: usize) {
+        let more = length.saturating_sub(self.length());
+        let longer = text(rng, more / 2);
+        if rng.once_in(2) {
+            self.source.extend(longer);
+        } else {
+            self.computer.extend(longer);
+        }
+    }
+
+    /// An event with one to three things changed, mostly for the worse.
+    pub fn bad(rng: &mut Random, size: Size) -> Made {
+        let mut made = Made::good(rng, size);
+        for _ in 0..rng.range(1, 3) {
+            made.spoil(rng);
+        }
+        made
+    }
+
+    fn spoil(&mut self, rng: &mut Random) {
+        let f = &mut self.fields;
+        match rng.below(16) {
+            0 => {
+                f.event_type = match rng.below(3) {
+                    0 => 1 << rng.below(16),
+                    1 => rng.below(40) as u16,
+                    _ => rng.bits() as u16,
+                }
+            }
+            1 => f.reserved_flags = 1 << rng.below(16) | rng.pick(&[0, 0x8000]),
+            2 => f.num_strings = rng.pick(&[0, 1, 255, 256, 257, 258, 0x8000, 0xFFFF]),
+            3 => f.num_strings = f.num_strings.wrapping_add(rng.pick(&[1, 0xFFFF])),
+            4 => spoil_text(rng, &mut self.source),
+            5 => spoil_text(rng, &mut self.computer),
+            6 => spoil_text(rng, &mut self.strings),
+            7 => self.strings.extend([0, 0]),
+            8 => {
+                let len = rng.range(0, 80);
+                self.sid = rng.bytes(len);
+            }
+            9 => {
+                self.sid = sid(rng);
+                let at = rng.below(2);
+                self.sid[at] = rng.pick(&[0, 1, 2, 14, 15, 16, 255]);
+            }
+            10 => {
+                self.sid = sid(rng);
+                let len = self.sid.len() + rng.range(0, 8);
+                self.sid.resize(len - rng.below(len.min(9)), 0);
+            }
+            11 => {
+                // Sixteen sub-authorities: one too many.
+                self.sid = rng.bytes(72);
+                self.sid[..2].copy_from_slice(&[1, 16]);
+            }
+            12 => {
+                let len = rng.pick(&[MAX_DATA, MAX_DATA + 1, MAX_DATA + 2, 65_536, 70_000]);
+                self.data.resize(len, 7);
+            }
+            13 => {
+                let length = rng.pick(&[MAX_LENGTH - 4, MAX_LENGTH, MAX_LENGTH + 4]);
+                self.fit(rng, length);
+            }
+            14 => {
+                let units = rng.range(32_700, 33_000);
+                self.computer = text(rng, units);
+            }
+            _ => f.record_number = u32::MAX,
+        }
+    }
+
+    pub fn plain(&self) -> plain::Event<'_> {
+        plain::Event {
+            fields: self.fields,
+            source_name: &self.source,
+            computer_name: &self.computer,
+            sid: &self.sid,
+            strings: &self.strings,
+            event_data: &self.data,
+        }
+    }
+
+    pub fn proved(&self) -> eventlog::Event<'_> {
+        let f = self.fields;
+        eventlog::Event {
+            fields: eventlog::Fields {
+                record_number: f.record_number,
+                time_generated: f.time_generated,
+                time_written: f.time_written,
+                event_id: f.event_id,
+                event_type: f.event_type,
+                num_strings: f.num_strings,
+                event_category: f.event_category,
+                reserved_flags: f.reserved_flags,
+            },
+            source_name: &self.source,
+            computer_name: &self.computer,
+            sid: &self.sid,
+            strings: &self.strings,
+            event_data: &self.data,
+        }
+    }
+
+    /// The laid-out size.
+    pub fn length(&self) -> usize {
+        let sid_at = aligned(56 + self.source.len() + 2 + self.computer.len() + 2);
+        aligned(sid_at + self.sid.len() + self.strings.len() + self.data.len()) + 4
+    }
+
+    /// The record, laid out by the paper's table; what it ignores is zero, or
+    /// any bytes.
+    pub fn encode(&self, mut any: Option<&mut Random>) -> Vec<u8> {
+        let mut ignored = |len: usize| match &mut any {
+            Some(rng) => rng.bytes(len),
+            None => vec![0; len],
+        };
+        let f = self.fields;
+        let sid_at = aligned(56 + self.source.len() + 2 + self.computer.len() + 2);
+        let strings_at = sid_at + self.sid.len();
+        let data_at = strings_at + self.strings.len();
+        let length = (self.length() as u32).to_le_bytes();
+        let mut offset = |present: bool, at: usize| match present {
+            true => (at as u32).to_le_bytes().to_vec(),
+            false => ignored(4),
+        };
+        let string_offset = offset(f.num_strings != 0, strings_at);
+        let sid_offset = offset(!self.sid.is_empty(), sid_at);
+        let data_offset = offset(!self.data.is_empty(), data_at);
+
+        let mut out = Vec::with_capacity(self.length());
+        out.extend(length);
+        out.extend(0x654C_664Cu32.to_le_bytes());
+        for field in [
+            f.record_number,
+            f.time_generated,
+            f.time_written,
+            f.event_id,
+        ] {
+            out.extend(field.to_le_bytes());
+        }
+        for field in [
+            f.event_type,
+            f.num_strings,
+            f.event_category,
+            f.reserved_flags,
+        ] {
+            out.extend(field.to_le_bytes());
+        }
+        out.extend(ignored(4));
+        out.extend(string_offset);
+        out.extend((self.sid.len() as u32).to_le_bytes());
+        out.extend(sid_offset);
+        out.extend((self.data.len() as u32).to_le_bytes());
+        out.extend(data_offset);
+        out.extend(&self.source);
+        out.extend([0, 0]);
+        out.extend(&self.computer);
+        out.extend([0, 0]);
+        out.extend(ignored(sid_at - out.len()));
+        out.extend(&self.sid);
+        out.extend(&self.strings);
+        out.extend(&self.data);
+        out.extend(ignored(self.length() - 4 - out.len()));
+        out.extend(length);
+        out
+    }
+}
+
+fn spoil_text(rng: &mut Random, bytes: &mut Vec<u8>) {
+    match rng.below(4) {
+        0 => bytes.push(rng.bits() as u8),
+        1 => {
+            bytes.pop();
+        }
+        2 => {
+            let at = rng.below(bytes.len() / 2 + 1) * 2;
+            let tail = bytes.split_off(at.min(bytes.len()));
+            bytes.extend([0, 0]);
+            bytes.extend(tail);
+        }
+        _ => {
+            let at = rng.below(bytes.len() + 1);
+            let len = rng.range(0, 3);
+            let more = rng.bytes(len);
+            let tail = bytes.split_off(at);
+            bytes.extend(more);
+            bytes.extend(tail);
+        }
+    }
+}
+
+/// A good record with any bytes where they are ignored.
+pub fn record(rng: &mut Random, size: Size) -> Vec<u8> {
+    Made::good(rng, size).encode(Some(rng))
+}
+
+/// A good record whose data is records and pieces of records.
+pub fn nested(rng: &mut Random) -> Vec<u8> {
+    let mut outer = Made::good(rng, Size::Small);
+    let lead = rng.below(4);
+    outer.data = rng.bytes(lead);
+    for _ in 0..rng.range(1, 3) {
+        let inner = record(rng, Size::Small);
+        let len = if rng.once_in(3) {
+            rng.below(inner.len())
+        } else {
+            inner.len()
+        };
+        outer.data.extend(&inner[..len]);
+    }
+    outer.encode(Some(rng))
+}
+
+/// Values for a field with value `old` in a record of this Length.
+pub fn boundary_values(old: u32, length: u32) -> Vec<u32> {
+    let mut values: Vec<u32> = vec![
+        0,
+        1,
+        2,
+        3,
+        4,
+        5,
+        7,
+        8,
+        9,
+        11,
+        12,
+        15,
+        16,
+        17,
+        20,
+        24,
+        31,
+        32,
+        33,
+        56,
+        57,
+        58,
+        60,
+        61,
+        62,
+        63,
+        64,
+        65,
+        66,
+        68,
+        69,
+        72,
+        76,
+        127,
+        128,
+        255,
+        256,
+        257,
+        0x4000,
+        0x7FFF,
+        0x8000,
+        0x8001,
+        0xC000,
+        0xFFFE,
+        0xFFFF,
+        61_436,
+        61_439,
+        61_440,
+        61_441,
+        61_444,
+        65_528,
+        65_531,
+        65_532,
+        65_533,
+        65_536,
+        65_540,
+        0x654C_664C,
+        0x664C_654C,
+        0x7FFF_FFFF,
+        0x8000_0000,
+        0xFFFF_0000,
+        0xFFFF_FFF0,
+        0xFFFF_FFFC,
+        0xFFFF_FFFE,
+        0xFFFF_FFFF,
+    ];
+    for near in [old, length, length.wrapping_sub(4), old.wrapping_neg()] {
+        for by in [0, 1, 2, 3, 4, 8, 0x100, 0x1_0000, 0x8000_0000] {
+            values.push(near.wrapping_add(by));
+            values.push(near.wrapping_sub(by));
+        }
+    }
+    values.push(length.wrapping_sub(4).wrapping_sub(old));
+    values.extend((0..32).map(|bit| old ^ 1 << bit));
+    values.sort_unstable();
+    values.dedup();
+    values
+}
+
+/// Puts the low bytes of a number.
+pub fn put(bytes: &mut [u8], at: usize, size: usize, value: u32) {
+    if let Some(field) = bytes.get_mut(at..).and_then(|from| from.get_mut(..size)) {
+        field.copy_from_slice(&value.to_le_bytes()[..size]);
+    }
+}
+
+/// The number in some bytes.
+pub fn get(bytes: &[u8], at: usize, size: usize) -> u32 {
+    let mut value = [0; 4];
+    value[..size].copy_from_slice(&bytes[at..at + size]);
+    u32::from_le_bytes(value)
+}
+
+/// Changes some bytes, sometimes the length.
+pub fn damage(rng: &mut Random, bytes: &mut Vec<u8>) {
+    for _ in 0..rng.range(1, 3) {
+        if bytes.is_empty() {
+            return;
+        }
+        let at = match rng.below(3) {
+            0 => rng.below(bytes.len().min(64)),
+            1 => bytes.len() - 1 - rng.below(bytes.len().min(8)),
+            _ => rng.below(bytes.len()),
+        };
+        match rng.below(8) {
+            0 => bytes[at] = 0,
+            1 => bytes[at] = 0xFF,
+            2 => bytes[at] = rng.bits() as u8,
+            3 => bytes[at] = bytes[at].wrapping_add(rng.pick(&[1, 2, 4, 252, 254, 255])),
+            4 => {
+                bytes.remove(at);
+            }
+            5 => bytes.insert(at, rng.bits() as u8),
+            6 => {
+                // Two bytes, as a unit may lie.
+                let value = rng.pick(&[0, 1, 0x100, 0xFFFF]);
+                put(bytes, at & !1, 2, value);
+            }
+            _ => bytes[at] ^= 1 << rng.below(8),
+        }
+    }
+}
+
+/// A log and the places between its records. Broken logs have garbage between
+/// or in them; then the places are only likely ones.
+pub fn log(rng: &mut Random, count: usize, size: Size, broken: bool) -> (Vec<u8>, Vec<usize>) {
+    let mut bytes = Vec::new();
+    let mut places = vec![0];
+    let first = number(rng);
+    let numbered = rng.once_in(2);
+    let bad = if broken { rng.below(count + 1) } else { count };
+    for i in 0..count {
+        let mut made = Made::good(rng, size);
+        made.fields.record_number = match numbered {
+            true => first.wrapping_add(i as u32),
+            false => rng.below(5) as u32,
+        };
+        let mut record = match rng.once_in(8) && size == Size::Small {
+            true => nested(rng),
+            false => made.encode(Some(rng)),
+        };
+        if i == bad {
+            match rng.below(3) {
+                0 => {
+                    let len = rng.range(1, 80);
+                    bytes.extend(rng.bytes(len));
+                }
+                1 => {
+                    let len = rng.below(record.len());
+                    record.truncate(len);
+                }
+                _ => damage(rng, &mut record),
+            }
+        }
+        bytes.extend(record);
+        places.push(bytes.len());
+    }
+    if bad == count && broken {
+        let len = rng.range(1, 80);
+        bytes.extend(rng.bytes(len));
+        places.push(bytes.len());
+    }
+    (bytes, places)
+}
+
+/// A buffer with a plausible head over a body with many zero units.
+pub fn noise(rng: &mut Random) -> Vec<u8> {
+    let length = 64 + 4 * rng.below(30);
+    let few = rng.range(2, 5) as u64;
+    let mut out: Vec<u8> = (0..length)
+        .map(|_| (rng.bits() % few).saturating_sub(1) as u8)
+        .collect();
+    let mut put_some = |at, size, value: u32| {
+        if !rng.once_in(24) {
+            put(&mut out, at, size, value);
+        }
+    };
+    put_some(0, 4, length as u32);
+    put_some(4, 4, 0x654C_664C);
+    put_some(length - 4, 4, length as u32);
+    put_some(24, 2, 2);
+    put_some(30, 2, 0x8000);
+    put_some(26, 2, 0);
+    put_some(40, 4, 0);
+    put_some(48, 4, 0);
+    // Then the parts where they belong, as far as the names end.
+    let zero = |from: usize, out: &[u8]| {
+        (from..length - 5)
+            .step_by(2)
+            .find(|at| out[*at..*at + 2] == [0, 0])
+            .map(|at| at + 2)
+    };
+    let Some(names_end) = zero(56, &out).and_then(|at| zero(at, &out)) else {
+        return out;
+    };
+    let mut at = aligned(names_end);
+    if rng.once_in(2) {
+        let n = rng.below(4);
+        put(&mut out, 40, 4, 8 + 4 * n as u32);
+        put(&mut out, 44, 4, at as u32);
+        put(&mut out, at, 2, 1 + 256 * n as u32);
+        at += 8 + 4 * n;
+        put(&mut out, length - 4, 4, length as u32);
+    }
+    let count = rng.below(6);
+    put(&mut out, 26, 2, count as u32);
+    put(&mut out, 36, 4, at as u32);
+    for _ in 0..count {
+        match zero(at, &out) {
+            Some(after) => at = after,
+            None => return out,
+        }
+    }
+    let left = (length - 4).saturating_sub(at);
+    put(
+        &mut out,
+        48,
+        4,
+        (left + 1).saturating_sub(rng.below(6)) as u32,
+    );
+    put(&mut out, 52, 4, at as u32);
+    out
+}

@@ -1,0 +1,132 @@
+//! Both libraries on every family of inputs. `COMPARE_ROUNDS` sets the rounds
+//! of each family, for more than the million judged buffers of the default.
+
+use std::env;
+use std::io::{stdout, Write};
+use std::sync::atomic::{AtomicBool, AtomicU64, Ordering::Relaxed};
+use std::sync::Mutex;
+use std::thread;
+use std::time::Instant;
+
+use compare::check::{Call, Tally, FLAGS, STATUSES};
+use compare::{round, FAMILIES};
+
+/// Rounds of each family.
+const ROUNDS: u64 = 250;
+const THREADS: usize = 2;
+
+/// Where a round panics, says which one it was, as a panic of a library itself
+/// does not, and stops the other thread.
+struct Watch<'a> {
+    stop: &'a AtomicBool,
+    family: usize,
+    number: u64,
+}
+
+impl Drop for Watch<'_> {
+    fn drop(&mut self) {
+        if thread::panicking() {
+            self.stop.store(true, Relaxed);
+            let (name, _) = FAMILIES[self.family];
+            eprintln!("that was family {name}, round {}", self.number);
+        }
+    }
+}
+
+#[test]
+fn both_answer_the_same() {
+    let rounds = match env::var("COMPARE_ROUNDS") {
+        Ok(text) => text.parse().expect("COMPARE_ROUNDS is a number"),
+        Err(_) => ROUNDS,
+    };
+    let start = Instant::now();
+    let work = AtomicU64::new(0);
+    let stop = AtomicBool::new(false);
+    let tallies = Mutex::new(vec![(Tally::default(), 0.0); FAMILIES.len()]);
+    thread::scope(|scope| {
+        for _ in 0..THREADS {
+            scope.spawn(|| {
+                while !stop.load(Relaxed) {
+                    let next = work.fetch_add(1, Relaxed);
+                    let (family, number) = ((next / rounds.max(1)) as usize, next % rounds.max(1));
+                    if family >= FAMILIES.len() || rounds == 0 {
+                        break;
+                    }
+                    let stop = &stop;
+                    let _watch = Watch {
+                        stop,
+                        family,
+                        number,
+                    };
+                    let begun = Instant::now();
+                    let tally = round(family, number);
+                    let mut tallies = tallies.lock().unwrap();
+                    tallies[family].0.add(&tally);
+                    tallies[family].1 += begun.elapsed().as_secs_f64();
+                }
+            });
+        }
+    });
+
+    let mut total = Tally::default();
+    // Not by print!, which is shown only for a test that fails.
+    let mut out = stdout().lock();
+    writeln!(out).unwrap();
+    for ((tally, seconds), (name, _)) in tallies.into_inner().unwrap().iter().zip(FAMILIES) {
+        total.add(tally);
+        let Tally { judged, calls, .. } = tally;
+        writeln!(
+            out,
+            "{name:8} judged {judged:9}, calls {calls:9}, {seconds:6.1} s"
+        )
+        .unwrap();
+    }
+    let Tally { judged, calls, .. } = total;
+    let good = total.met(Call::Step, 0) + total.met(Call::StepBack, 0);
+    let seconds = start.elapsed().as_secs_f64();
+    writeln!(
+        out,
+        "compared {rounds} rounds: {judged} judged buffers ({good} good), {calls} calls, {seconds:.1} s"
+    )
+    .unwrap();
+    drop(out);
+    if rounds >= ROUNDS {
+        assert!(judged >= 1_000_000, "only {judged} judged buffers");
+        reached(&total);
+    }
+}
+
+/// Every answer of every call occurred.
+fn reached(total: &Tally) {
+    let reading: Vec<u32> = (0..=13).collect();
+    let writing = [0, 2, 6, 7, 8, 9, 10, 11, 12, 15];
+    let expected: [(Call, Vec<u32>); 8] = [
+        (Call::Step, reading.clone()),
+        (Call::StepBack, reading.clone()),
+        (Call::String, [&reading[..], &[17]].concat()),
+        (Call::Walk, reading.clone()),
+        (Call::WalkBack, reading),
+        (Call::Write, writing.to_vec()),
+        (Call::Append, [&writing[..], &[1, 14]].concat()),
+        (Call::Listing, vec![0, 15]),
+    ];
+    for (call, numbers) in expected {
+        for number in 0..18 {
+            let met = total.met(call, number) > 0;
+            assert_eq!(met, numbers.contains(&number), "{call:?} {number}");
+        }
+    }
+    for (kind, counts) in total.statuses.iter().enumerate() {
+        for (status, count) in STATUSES.iter().zip(counts) {
+            // Wrong flags have one answer; a record that is found is never the end.
+            let possible = match kind {
+                4 => *status == 0xC000_000D,
+                2 | 3 => *status != 0xC000_0011,
+                _ => true,
+            };
+            let flags = FLAGS.get(kind);
+            assert_eq!(*count > 0, possible, "flags {flags:?} status {status:#x}");
+        }
+    }
+    assert!(total.wrapped > 0);
+}
