@@ -87,6 +87,15 @@ static void append_and_read(void)
     CHECK(eventlog_read(r.handle, log, sizeof log, 9, 0, 168, out, sizeof out).status == 0xC0000011);
     CHECK(eventlog_read(eventlog_fresh(), log, sizeof log, 6, 9, 168, out, sizeof out).status == 0xC000000D);
 
+    /* a refusal gives back the handle as it came, whatever its kind */
+    eventlog_handle odd = {7, 64};
+    r = eventlog_read(odd, log, sizeof log, 7, 0, 168, out, sizeof out);
+    CHECK(r.status == 0xC000000D && r.handle.kind == 7 && r.handle.boundary == 64);
+    CHECK(eventlog_read(odd, log, sizeof log, 5, 0, 104, out, sizeof out).read == 104);
+    odd.kind = 0;
+    r = eventlog_read(odd, log, sizeof log, 7, 0, 168, out, sizeof out);
+    CHECK(r.status == 0xC000000D && r.handle.kind == 0 && r.handle.boundary == 64);
+
     memset(out, 255, sizeof out);
     eventlog_written l = eventlog_listing(log, sizeof log, out, sizeof out);
     static const char text[] = "records 2\n0 64 1\n64 104 2\n";

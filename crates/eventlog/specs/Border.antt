@@ -43,15 +43,16 @@ pub record ReadServed : Type 0 where
 abbrev pub readOutcome : ReadAnswer → List ℕ → ReadServed
 readOutcome r out = record { answer = r; output = out }
 
-abbrev pub across : Served → ReadServed
-across x =
+-- "A refusal returns [..] the old handle": the caller's own, whatever its kind
+abbrev pub across : ReadHandle → Served → ReadServed
+across h x =
     record {
       answer =
           record {
             status = x .answer .status;
             read = x .answer .read;
             needed = x .answer .needed;
-            handle = crossed (x .answer .handle .place);
+            handle = cond (eqb (x .answer .status) 0) (crossed (x .answer .handle .place)) h;
           };
       output = x .output;
     }
