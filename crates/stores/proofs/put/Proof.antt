@@ -12,7 +12,7 @@ returns-2 : tie.Need-returns-2
 returns-2 c = let a = c .before .before .before .before .args in not-put (a .out .now) (a .at) (a .t .now) (omega arith)
 
 returns-3 : tie.Need-returns-3
-returns-3 c = stored-put (omega arith) (c .before .before .copy .ensures)
+returns-3 c = stored-put (omega arith) (c .before .before .copy-blocks .ensures)
 
 pub put-spec : {M : Type 1} → statement M
 put-spec = tie.close (tie.spec returns (λ c. search needs) returns-2 (λ c κs. omega arith) (λ c. search needs) returns-3)
