@@ -1,4 +1,4 @@
-//! The bench samples S and T through the binding.
+//! The bench samples through the binding.
 
 use eventlog::*;
 
@@ -228,4 +228,61 @@ fn served() {
     assert_eq!(none, answer(status::INVALID_PARAMETER, 0, 0, Place::Fresh));
     let seek = Handle::fresh().read(&log, 6, 8, 168, &mut out);
     assert_eq!(seek, answer(0, 104, 0, Place::Boundary(168)));
+}
+
+/// The bench samples that are not proved, in the paper's order.
+#[test]
+fn not_proved() {
+    assert_eq!(refusal(&put(&T, 24, 32), 0), 6);
+    assert_eq!(refusal(&put(&T, 24, 16), 0), 0);
+    assert_eq!(refusal(&put(&S, 0, 60), 0), 2);
+
+    let strings = [0; 2 * 257];
+    let with_strings = |count: u16, record: &mut [u8]| {
+        let mut event = s_event();
+        event.fields.num_strings = count;
+        event.strings = &strings[..2 * usize::from(count)];
+        write(&event, record)
+    };
+    let mut record = [0; 64 + 2 * 256];
+    assert_eq!(with_strings(256, &mut record), Ok(record.len()));
+    assert_eq!(refusal(&record, 0), 0);
+    assert_eq!(with_strings(257, &mut [0; 1000]), Err(8));
+    assert_eq!(refusal(&put(&record, 26, 1), 0), 8);
+
+    assert_eq!(refusal(&put(&T, 31, 0x80), 0), 0);
+    assert_eq!(refusal(&put(&T, 31, 0x40), 0), 7);
+
+    let name = [b'x', 0].repeat(2016);
+    let of_length = |units: usize, record: &mut [u8]| {
+        let mut event = s_event();
+        event.source_name = &name[..2 * units];
+        event.event_data = &[0; 61_440];
+        write(&event, record)
+    };
+    let mut record = vec![0; 65_536];
+    assert_eq!(of_length(2014, &mut record), Ok(65_532));
+    assert_eq!(refusal(&record, 0), 0);
+    assert_eq!(of_length(2016, &mut record), Err(2));
+    record[..4].copy_from_slice(&65_536u32.to_le_bytes());
+    record[65_532..].copy_from_slice(&65_536u32.to_le_bytes());
+    assert_eq!(refusal(&record, 0), 2);
+
+    let log = s_t();
+    let mut out = [0xAA; 168];
+    let newest = Handle::fresh().read(&log, 9, 0, 167, &mut out);
+    assert_eq!((newest.status, newest.read, newest.needed), (0, 104, 0));
+    assert_eq!(newest.handle.place, Place::Boundary(64));
+    assert_eq!((&out[..104], &out[104..]), (&T[..], &[0xAA; 64][..]));
+    for flags in [6, 10] {
+        let none = Handle::fresh().read(&log, flags, 9, 168, &mut out);
+        assert_eq!(none.status, status::INVALID_PARAMETER);
+    }
+    for (flags, needed) in [(5, 64), (9, 104)] {
+        let nothing = Handle::fresh().read(&log, flags, 0, 0, &mut []);
+        let expected = (status::BUFFER_TOO_SMALL, needed);
+        assert_eq!((nothing.status, nothing.needed), expected);
+        let end = Handle::fresh().read(&[], flags, 0, 0, &mut []);
+        assert_eq!((end.status, end.needed), (status::END_OF_FILE, 0));
+    }
 }

@@ -43,7 +43,7 @@ fn some_size(rng: &mut Random) -> Size {
     }
 }
 
-/// Every fixed field and Length2 of a record, set to boundary values.
+/// Records of all sizes but the largest, with every single-field damage.
 fn fields(rng: &mut Random, check: &mut Check) {
     for _ in 0..3 {
         let size = if rng.once_in(8) {
@@ -52,29 +52,33 @@ fn fields(rng: &mut Random, check: &mut Check) {
             Size::Small
         };
         let good = make::record(rng, size);
-        // Bytes behind it, so that a longer Length still fits.
-        let len = rng.pick(&[0, 4, 200]);
-        let behind = rng.bytes(len);
-        let whole = [&good[..], &behind].concat();
         check.buffer(&good);
-        let length = good.len() as u32;
-        let length2 = (good.len() - 4, 4);
-        for (at, size) in FIELDS.into_iter().chain([length2]) {
-            for value in make::boundary_values(make::get(&good, at, size), length) {
-                let mut changed = whole.clone();
-                make::put(&mut changed, at, size, value);
+        every_field(rng, check, &good);
+    }
+}
+
+/// Every fixed field and Length2 of a record, set to boundary values.
+fn every_field(rng: &mut Random, check: &mut Check, good: &[u8]) {
+    // Bytes behind it, so that a longer Length still fits.
+    let len = rng.pick(&[0, 4, 200]);
+    let whole = [good, &rng.bytes(len)].concat();
+    let length = good.len() as u32;
+    let length2 = (good.len() - 4, 4);
+    for (at, size) in FIELDS.into_iter().chain([length2]) {
+        for value in make::boundary_values(make::get(good, at, size), length) {
+            let mut changed = whole.clone();
+            make::put(&mut changed, at, size, value);
+            check.at(&changed, 0);
+            check.step_back(&changed, good.len());
+            if at == 0 {
+                // Length and Length2 both, wherever that then lies.
+                let length2 = (value as usize).saturating_sub(4);
+                make::put(&mut changed, length2, 4, value);
                 check.at(&changed, 0);
-                check.step_back(&changed, good.len());
-                if at == 0 {
-                    // Length and Length2 both, wherever that then lies.
-                    let length2 = (value as usize).saturating_sub(4);
-                    make::put(&mut changed, length2, 4, value);
-                    check.at(&changed, 0);
-                    check.step_back(&changed, value as usize);
-                }
-                if value % 16 == 3 {
-                    check.buffer(&changed[..good.len()]);
-                }
+                check.step_back(&changed, value as usize);
+            }
+            if value % 16 == 3 {
+                check.buffer(&changed[..good.len()]);
             }
         }
     }
@@ -202,6 +206,9 @@ fn limits(rng: &mut Random, check: &mut Check) {
         }
         let good = make::record(rng, Size::Large);
         check.buffer(&good);
+        if rng.once_in(50) {
+            every_field(rng, check, &good);
+        }
         for _ in 0..12 {
             changed_large(rng, check, &good);
         }

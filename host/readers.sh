@@ -1,0 +1,12 @@
+#!/usr/bin/env bash
+# Compares the proved reader with other programs' readers, libevt's evtexport and Samba's ndrdump, on
+# records that the proved writer wrote. Optional, and no part of the gate: it installs Debian packages.
+set -euo pipefail
+cd "$(dirname "$0")"
+if ! command -v evtexport >/dev/null || ! command -v ndrdump >/dev/null; then
+    apt-get install --yes libevt-utils samba-testsuite
+fi
+[ -f ../target/staticlib/libeventlog.a ] || (cd .. && rt staticlib eventlog)
+room=$(mktemp -d)
+trap 'rm -rf "$room"' EXIT
+cargo run --release --offline --quiet --bin readers "$room"
