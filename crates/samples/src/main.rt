@@ -1,7 +1,8 @@
-// The bench samples of 01 that are run and not proved: each line says what a call answers, and
-// stands compared in the file stdout.
+// The bench samples of 01 that are run and not proved, and a published record: each line says what a call
+// answers, and stands compared in the file stdout.
 
 mod appending;
+mod published;
 mod serving;
 mod writing;
 
@@ -51,7 +52,7 @@ pub fn sample_t() -> [u8; 104] {
 }
 
 // Writes what was asked, and the refusal of the record at the start of s.
-fn show(what: &[u8], s: &[u8]) {
+pub fn show(what: &[u8], s: &[u8]) {
     io::write_all(STDOUT_FILENO, what);
     io::print_decimal(STDOUT_FILENO, record::refusal(s, 0) as u64);
     io::write_all(STDOUT_FILENO, b"\n");
@@ -140,6 +141,7 @@ fn main() {
     flags();
     strings();
     longest();
+    published::published();
     writing::writing();
     appending::appending();
     serving::serving();
