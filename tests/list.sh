@@ -42,4 +42,13 @@ printf '\0' >>"$room/input"
 printf 'refused 16 at 0\n' >"$room/wanted"
 same '65,537 bytes' "$room/input" "$room/wanted"
 
+# a folder cannot be read: that is said on standard error, and no listing is written
+"$program" <"$room" >"$room/got" 2>"$room/said" || true
+if [ -s "$room/got" ] || ! grep -q '^standard input' "$room/said"; then
+    echo "list: input that cannot be read: not as it should be"
+    cat "$room/got" "$room/said"
+    exit 1
+fi
+passed=$((passed + 1))
+
 echo "list: $passed outputs as they should be"
