@@ -1,112 +1,772 @@
-/* The C border: every call once, with what 01's samples say. */
+/* The C border: every call with 01's samples, what it refuses, and which bytes it leaves alone. */
 #include "eventlog.h"
 
 #include <stdio.h>
 #include <string.h>
 
+/* The layout that the library is built with. */
+_Static_assert(sizeof(eventlog_fields) == 24, "eventlog_fields");
+_Static_assert(sizeof(eventlog_unnumbered) == 20, "eventlog_unnumbered");
+_Static_assert(sizeof(eventlog_part) == 16, "eventlog_part");
+_Static_assert(sizeof(eventlog_record) == 120, "eventlog_record");
+_Static_assert(sizeof(eventlog_stepped) == 136, "eventlog_stepped");
+_Static_assert(sizeof(eventlog_walked) == 16, "eventlog_walked");
+_Static_assert(sizeof(eventlog_written) == 16, "eventlog_written");
+_Static_assert(sizeof(eventlog_appended) == 16, "eventlog_appended");
+_Static_assert(sizeof(eventlog_handle) == 16, "eventlog_handle");
+_Static_assert(sizeof(eventlog_answer) == 40, "eventlog_answer");
+_Static_assert(offsetof(eventlog_stepped, found) == 16, "eventlog_stepped.found");
+_Static_assert(offsetof(eventlog_answer, handle) == 24, "eventlog_answer.handle");
+
+/* A member of another width can leave a struct's size as it is, by its padding. */
+#define WIDTH(type, member) sizeof(((type *)0)->member)
+_Static_assert(WIDTH(eventlog_part, at) == 8 && WIDTH(eventlog_part, len) == 8, "eventlog_part");
+_Static_assert(WIDTH(eventlog_record, start) == 8 && WIDTH(eventlog_record, length) == 8, "eventlog_record");
+_Static_assert(WIDTH(eventlog_stepped, refusal) == 4 && WIDTH(eventlog_stepped, at) == 8, "eventlog_stepped");
+_Static_assert(WIDTH(eventlog_walked, count) == 8 && WIDTH(eventlog_walked, refusal) == 4, "eventlog_walked");
+_Static_assert(WIDTH(eventlog_written, refusal) == 4 && WIDTH(eventlog_written, length) == 8, "eventlog_written");
+_Static_assert(WIDTH(eventlog_appended, refusal) == 4 && WIDTH(eventlog_appended, used) == 8, "eventlog_appended");
+_Static_assert(WIDTH(eventlog_handle, kind) == 4 && WIDTH(eventlog_handle, boundary) == 8, "eventlog_handle");
+_Static_assert(WIDTH(eventlog_answer, status) == 4 && WIDTH(eventlog_answer, read) == 8, "eventlog_answer");
+_Static_assert(WIDTH(eventlog_answer, needed) == 8, "eventlog_answer");
+
+#define COUNT(table) (sizeof(table) / sizeof *(table))
+
 static int failed;
 
-#define CHECK(fact)                                              \
-    do {                                                         \
-        if (!(fact)) {                                           \
-            printf("eventlog.c:%d: not so: %s\n", __LINE__, #fact); \
-            failed = 1;                                          \
-        }                                                        \
-    } while (0)
-
-/* "Scale", "T1", a SID of 12 bytes, "OK" with its zero unit, 3 data bytes */
-static const uint8_t source[] = {'S', 0, 'c', 0, 'a', 0, 'l', 0, 'e', 0};
-static const uint8_t computer[] = {'T', 0, '1', 0};
-static const uint8_t sid[] = {1, 1, 0, 0, 0, 0, 0, 0, 0, 0, 0, 0};
-static const uint8_t strings[] = {'O', 0, 'K', 0, 0, 0};
-static const uint8_t bytes[] = {0, 0, 0};
-
-static const eventlog_fields number_8 = {8, 0, 0, 0, 0, 1, 0, 0};
-static const eventlog_unnumbered one_string = {0, 0, 0, 0, 1, 0, 0};
-static const eventlog_unnumbered no_string = {0, 0, 0, 0, 0, 0, 0};
-
-static void write_and_step(void)
+static void check(int line, int holds, const char *fact)
 {
-    uint8_t out[128];
-    memset(out, 255, sizeof out);
-    eventlog_written w = eventlog_write(number_8, source, sizeof source, computer, sizeof computer, sid, sizeof sid,
-                                        strings, sizeof strings, bytes, sizeof bytes, out, sizeof out);
-    CHECK(w.refusal == 0 && w.length == 104);
-    CHECK(out[103] == 0 && out[104] == 255);
-    w = eventlog_write(number_8, source, sizeof source, computer, sizeof computer, sid, sizeof sid, strings,
-                       sizeof strings, bytes, sizeof bytes, out, 103);
-    CHECK(w.refusal == 15 && w.length == 0);
-
-    eventlog_stepped x = eventlog_step(out, 104, 0);
-    CHECK(x.refusal == 0 && x.at == 0 && x.found.start == 0 && x.found.length == 104);
-    CHECK(x.found.fields.record_number == 8 && x.found.fields.num_strings == 1);
-    CHECK(x.found.source_name.at == 56 && x.found.source_name.len == sizeof source);
-    CHECK(x.found.computer_name.at == 68 && x.found.computer_name.len == sizeof computer);
-    CHECK(x.found.sid.at == 76 && x.found.strings.at == 88 && x.found.event_data.at == 94);
-    CHECK(x.found.event_data.len == 3);
-    eventlog_stepped y = eventlog_step_back(out, 104, 104);
-    CHECK(y.refusal == 0 && y.at == 104 && memcmp(&x.found.fields, &y.found.fields, sizeof x.found.fields) == 0);
-    CHECK(eventlog_step(out, 104, 1).refusal == 2 && eventlog_step(out, 104, 1).found.length == 0);
-    CHECK(eventlog_step(out, 104, (size_t)-1).refusal == 1);
-    CHECK(eventlog_refusal(out, 104, 0) == 0 && eventlog_refusal(NULL, 0, 0) == 1);
-
-    eventlog_part s = eventlog_string(out, 104, 0, 0);
-    CHECK(s.at == 88 && s.len == 4 && eventlog_string_refusal(out, 104, 0, 0) == 0);
-    CHECK(eventlog_string(out, 104, 0, 1).len == 0 && eventlog_string_refusal(out, 104, 0, 1) == 17);
+    if (!holds) {
+        printf("eventlog.c:%d: not so: %s\n", line, fact);
+        failed = 1;
+    }
 }
 
-static void append_and_read(void)
+/* CHECK_AT names the line of a table's row or of a caller. */
+#define CHECK(fact) check(__LINE__, (fact), #fact)
+#define CHECK_AT(line, fact) check((line), (fact), #fact)
+
+/* ---- the samples ---- */
+
+/* 01's records S and T, joined. In T the numbers are not 0, and no two are the same. */
+enum { S = 0, T = 64, END = 168, S_LENGTH = 64, T_LENGTH = 104, S_NUMBER = 7, T_NUMBER = 0x14131211 };
+
+static const uint8_t batch[END] = {
+    [S] = S_LENGTH, [S + 4] = 'L', 'f', 'L', 'e', [S + 8] = S_NUMBER, [S + 60] = S_LENGTH,
+
+    [T] = T_LENGTH, [T + 4] = 'L', 'f', 'L', 'e',
+    [T + 8] = 0x11, 0x12, 0x13, 0x14,         /* record_number */
+    [T + 12] = 0x21, 0x22, 0x23, 0x24,        /* time_generated */
+    [T + 16] = 0x31, 0x32, 0x33, 0x34,        /* time_written */
+    [T + 20] = 0x41, 0x42, 0x43, 0x44,        /* event_id */
+    [T + 24] = 16, 0,                         /* event_type */
+    [T + 26] = 1, 0,                          /* num_strings */
+    [T + 28] = 0x51, 0x52,                    /* event_category */
+    [T + 30] = 0x00, 0x80,                    /* reserved_flags */
+    [T + 36] = 88,                            /* StringOffset */
+    [T + 40] = 12, [T + 44] = 76,             /* UserSidLength, UserSidOffset */
+    [T + 48] = 3, [T + 52] = 94,              /* DataLength, DataOffset */
+    [T + 56] = 'S', 0, 'c', 0, 'a', 0, 'l', 0, 'e', 0, 0, 0,
+    [T + 68] = 'T', 0, '1', 0, 0, 0,
+    [T + 76] = 1, 1, 0, 0, 0, 0, 0, 5, 18, 0, 0, 0,
+    [T + 88] = 'O', 0, 'K', 0, 0, 0,
+    [T + 94] = 0xD1, 0xD2, 0xD3,
+    [T + 100] = T_LENGTH,
+};
+
+typedef struct {
+    const uint8_t *p;
+    size_t len;
+} lent;
+
+/* What writing takes but the output. */
+typedef struct {
+    eventlog_fields f;
+    lent source, computer, sid, strings, data;
+} event;
+
+/* Every part that is not named is lent as a null pointer with length 0. */
+static const event event_s = {.f = {.record_number = S_NUMBER}};
+
+/* Fields are named everywhere: values in the header's order would follow a wrong order of the header. */
+static const event event_t = {
+    .f = {.record_number = T_NUMBER, .time_generated = 0x24232221, .time_written = 0x34333231,
+          .event_id = 0x44434241, .event_type = 16, .num_strings = 1, .event_category = 0x5251,
+          .reserved_flags = 0x8000},
+    .source = {batch + T + 56, 10}, .computer = {batch + T + 68, 4}, .sid = {batch + T + 76, 12},
+    .strings = {batch + T + 88, 6}, .data = {batch + T + 94, 3},
+};
+
+static eventlog_written write_event(event e, uint8_t *out, size_t out_len)
 {
-    uint8_t log[168];
-    memset(log, 255, sizeof log);
-    eventlog_appended a = eventlog_append(log, sizeof log, 0, no_string, NULL, 0, NULL, 0, NULL, 0, NULL, 0, NULL, 0);
-    CHECK(a.refusal == 0 && a.used == 64);
-    a = eventlog_append(log, sizeof log, 64, one_string, source, sizeof source, computer, sizeof computer, sid,
-                        sizeof sid, strings, sizeof strings, bytes, sizeof bytes);
-    CHECK(a.refusal == 0 && a.used == 168);
-    CHECK(eventlog_append(log, sizeof log, 169, no_string, NULL, 0, NULL, 0, NULL, 0, NULL, 0, NULL, 0).refusal == 1);
-    CHECK(eventlog_append(log, sizeof log, 63, no_string, NULL, 0, NULL, 0, NULL, 0, NULL, 0, NULL, 0).refusal == 14);
-    CHECK(eventlog_step(log, sizeof log, 64).found.fields.record_number == 2);
+    return eventlog_write(e.f, e.source.p, e.source.len, e.computer.p, e.computer.len, e.sid.p, e.sid.len,
+                          e.strings.p, e.strings.len, e.data.p, e.data.len, out, out_len);
+}
 
-    eventlog_walked w = eventlog_walk(log, sizeof log);
-    CHECK(w.count == 2 && w.refusal == 0);
-    /* the last four of 167 bytes are 0, 104, 0, 0: a Length of 26,624 */
-    w = eventlog_walk_back(log, 167);
-    CHECK(w.count == 0 && w.refusal == 3);
+static eventlog_appended append_event(uint8_t *log, size_t log_len, size_t used, event e)
+{
+    eventlog_unnumbered f = {
+        .time_generated = e.f.time_generated, .time_written = e.f.time_written, .event_id = e.f.event_id,
+        .event_type = e.f.event_type, .num_strings = e.f.num_strings, .event_category = e.f.event_category,
+        .reserved_flags = e.f.reserved_flags,
+    };
+    return eventlog_append(log, log_len, used, f, e.source.p, e.source.len, e.computer.p, e.computer.len,
+                           e.sid.p, e.sid.len, e.strings.p, e.strings.len, e.data.p, e.data.len);
+}
 
-    uint8_t out[256];
-    memset(out, 255, sizeof out);
-    eventlog_answer r = eventlog_read(eventlog_fresh(), log, sizeof log, 5, 0, 64, out, sizeof out);
-    CHECK(r.status == 0 && r.read == 64 && r.needed == 0 && r.handle.kind != 0 && r.handle.boundary == 64);
-    CHECK(memcmp(out, log, 64) == 0 && out[64] == 255);
-    r = eventlog_read(r.handle, log, sizeof log, 5, 0, 103, out, sizeof out);
-    CHECK(r.status == 0xC0000023 && r.read == 0 && r.needed == 104 && r.handle.boundary == 64);
-    r = eventlog_read(eventlog_fresh(), log, sizeof log, 9, 0, 168, out, sizeof out);
-    CHECK(r.status == 0 && r.read == 168 && r.handle.boundary == 0);
-    CHECK(memcmp(out, log + 64, 104) == 0 && memcmp(out + 104, log, 64) == 0);
-    CHECK(eventlog_read(r.handle, log, sizeof log, 9, 0, 168, out, sizeof out).status == 0xC0000011);
-    CHECK(eventlog_read(eventlog_fresh(), log, sizeof log, 6, 9, 168, out, sizeof out).status == 0xC000000D);
+/* What a step shows of S and of T where they start at a place; an absent part has a place too. */
+static eventlog_record record_s(size_t at)
+{
+    return (eventlog_record){
+        .start = at, .length = S_LENGTH, .fields = event_s.f,
+        .source_name = {.at = at + 56}, .computer_name = {.at = at + 58}, .sid = {.at = at + 60},
+        .strings = {.at = at + 60}, .event_data = {.at = at + 60},
+    };
+}
 
-    /* a refusal gives back the handle as it came, whatever its kind */
-    eventlog_handle odd = {7, 64};
-    r = eventlog_read(odd, log, sizeof log, 7, 0, 168, out, sizeof out);
-    CHECK(r.status == 0xC000000D && r.handle.kind == 7 && r.handle.boundary == 64);
-    CHECK(eventlog_read(odd, log, sizeof log, 5, 0, 104, out, sizeof out).read == 104);
-    odd.kind = 0;
-    r = eventlog_read(odd, log, sizeof log, 7, 0, 168, out, sizeof out);
-    CHECK(r.status == 0xC000000D && r.handle.kind == 0 && r.handle.boundary == 64);
+static eventlog_record record_t(size_t at)
+{
+    return (eventlog_record){
+        .start = at, .length = T_LENGTH, .fields = event_t.f,
+        .source_name = {.at = at + 56, .len = 10}, .computer_name = {.at = at + 68, .len = 4},
+        .sid = {.at = at + 76, .len = 12}, .strings = {.at = at + 88, .len = 6},
+        .event_data = {.at = at + 94, .len = 3},
+    };
+}
 
-    memset(out, 255, sizeof out);
-    eventlog_written l = eventlog_listing(log, sizeof log, out, sizeof out);
-    static const char text[] = "records 2\n0 64 1\n64 104 2\n";
-    CHECK(l.refusal == 0 && l.length == sizeof text - 1 && memcmp(out, text, l.length) == 0 && out[l.length] == 255);
-    CHECK(eventlog_listing(log, sizeof log, out, 231).refusal == 15);
+static int same_fields(eventlog_fields a, eventlog_fields b)
+{
+    return a.record_number == b.record_number && a.time_generated == b.time_generated
+        && a.time_written == b.time_written && a.event_id == b.event_id && a.event_type == b.event_type
+        && a.num_strings == b.num_strings && a.event_category == b.event_category
+        && a.reserved_flags == b.reserved_flags;
+}
+
+static int same_part(eventlog_part a, eventlog_part b)
+{
+    return a.at == b.at && a.len == b.len;
+}
+
+static int same_parts(eventlog_record a, eventlog_record b)
+{
+    return same_part(a.source_name, b.source_name) && same_part(a.computer_name, b.computer_name)
+        && same_part(a.sid, b.sid) && same_part(a.strings, b.strings) && same_part(a.event_data, b.event_data);
+}
+
+/* A pattern in which a store shows. */
+static void fill(uint8_t *p, size_t n)
+{
+    for (size_t i = 0; i < n; i++)
+        p[i] = (uint8_t)(i * 37 + 5);
+}
+
+/* ---- step, step_back, refusal ---- */
+
+static void finds(int line, eventlog_stepped x, size_t at, eventlog_record want)
+{
+    CHECK_AT(line, x.refusal == 0);
+    CHECK_AT(line, x.at == at);
+    CHECK_AT(line, x.found.start == want.start && x.found.length == want.length);
+    CHECK_AT(line, same_fields(x.found.fields, want.fields));
+    CHECK_AT(line, same_parts(x.found, want));
+}
+
+static void step_refuses(int line, eventlog_stepped x, size_t at, uint32_t refusal)
+{
+    const eventlog_record nothing = {.start = 0};
+    CHECK_AT(line, x.refusal == refusal);
+    CHECK_AT(line, x.at == at);
+    CHECK_AT(line, x.found.start == 0 && x.found.length == 0);
+    CHECK_AT(line, same_fields(x.found.fields, nothing.fields));
+    CHECK_AT(line, same_parts(x.found, nothing));
+}
+
+static void steps_find(void)
+{
+    finds(__LINE__, eventlog_step(batch, END, S), S, record_s(0));
+    finds(__LINE__, eventlog_step(batch, END, T), T, record_t(T));
+    finds(__LINE__, eventlog_step(batch + T, T_LENGTH, 0), 0, record_t(0));
+    finds(__LINE__, eventlog_step_back(batch, END, T), T, record_s(0));
+    finds(__LINE__, eventlog_step_back(batch, END, END), END, record_t(T));
+    finds(__LINE__, eventlog_step_back(batch + T, T_LENGTH, T_LENGTH), T_LENGTH, record_t(0));
+    CHECK(eventlog_refusal(batch, END, S) == 0 && eventlog_refusal(batch, END, T) == 0);
+}
+
+/* Places where no record of the first len bytes starts or ends: the refusals of both steps. */
+static const struct {
+    int line;
+    size_t len, at;
+    uint32_t front, rear;
+} misplaced[] = {
+    {__LINE__, END, END + 1, 1, 1},
+    {__LINE__, END, SIZE_MAX, 1, 1},
+    {__LINE__, 63, 0, 1, 1},
+    {__LINE__, 63, 63, 1, 1},
+    {__LINE__, END, 63, 3, 1},
+    {__LINE__, END, 1, 2, 1},
+    {__LINE__, END, END - 63, 1, 2},
+    {__LINE__, END, END - 1, 1, 3},
+};
+
+static void steps_refuse_places(void)
+{
+    for (size_t i = 0; i < COUNT(misplaced); i++) {
+        int line = misplaced[i].line;
+        size_t len = misplaced[i].len, at = misplaced[i].at;
+        step_refuses(line, eventlog_step(batch, len, at), at, misplaced[i].front);
+        step_refuses(line, eventlog_step_back(batch, len, at), at, misplaced[i].rear);
+        CHECK_AT(line, eventlog_refusal(batch, len, at) == misplaced[i].front);
+    }
+    step_refuses(__LINE__, eventlog_step(NULL, 0, 0), 0, 1);
+    step_refuses(__LINE__, eventlog_step_back(NULL, 0, 0), 0, 1);
+    CHECK(eventlog_refusal(NULL, 0, 0) == 1);
+}
+
+/* One byte of S or T is another: the refusals from the front and from the rear. */
+static const struct {
+    int line;
+    size_t record, at;
+    uint8_t byte;
+    uint32_t front, rear;
+} spoilt[] = {
+    {__LINE__, S, 0, 60, 2, 5},
+    {__LINE__, T, 0, 102, 2, 5},
+    {__LINE__, T, 2, 1, 2, 5}, /* Length 65,640 */
+    {__LINE__, T, 0, 108, 3, 5},
+    {__LINE__, T, 4, 0, 4, 4},
+    {__LINE__, T, 100, 60, 5, 2},
+    {__LINE__, T, 100, 108, 5, 3},
+    {__LINE__, T, 100, 100, 5, 4}, /* from the rear the record starts at 4 */
+    {__LINE__, T, 24, 3, 6, 6},
+    {__LINE__, T, 24, 32, 6, 6},
+    {__LINE__, T, 31, 0x40, 7, 7},
+    {__LINE__, T, 27, 1, 8, 8}, /* 257 strings */
+    {__LINE__, S, 56, 1, 9, 9},
+    {__LINE__, S, 58, 1, 9, 9},
+    {__LINE__, T, 40, 8, 10, 10},
+    {__LINE__, T, 44, 77, 10, 10},
+    {__LINE__, T, 76, 2, 10, 10},
+    {__LINE__, T, 77, 2, 10, 10},
+    {__LINE__, T, 36, 90, 11, 11},
+    {__LINE__, T, 26, 3, 11, 11},
+    {__LINE__, T, 52, 95, 12, 12},
+    {__LINE__, T, 48, 7, 12, 12},
+    {__LINE__, T, 50, 1, 12, 12}, /* 65,539 data bytes */
+    {__LINE__, T, 48, 2, 13, 13},
+};
+
+static void spoilt_records_are_refused(void)
+{
+    for (size_t i = 0; i < COUNT(spoilt); i++) {
+        int line = spoilt[i].line;
+        size_t len = spoilt[i].record == S ? S_LENGTH : T_LENGTH;
+        uint8_t r[T_LENGTH];
+        memcpy(r, batch + spoilt[i].record, len);
+        r[spoilt[i].at] = spoilt[i].byte;
+        step_refuses(line, eventlog_step(r, len, 0), 0, spoilt[i].front);
+        step_refuses(line, eventlog_step_back(r, len, len), len, spoilt[i].rear);
+        CHECK_AT(line, eventlog_refusal(r, len, 0) == spoilt[i].front);
+        CHECK_AT(line, eventlog_string_refusal(r, len, 0, 0) == spoilt[i].front);
+        eventlog_part string = eventlog_string(r, len, 0, 0);
+        CHECK_AT(line, string.at == 0 && string.len == 0);
+        eventlog_walked w = eventlog_walk(r, len);
+        CHECK_AT(line, w.count == 0 && w.refusal == spoilt[i].front);
+        w = eventlog_walk_back(r, len);
+        CHECK_AT(line, w.count == 0 && w.refusal == spoilt[i].rear);
+    }
+}
+
+/* ---- string, string_refusal ---- */
+
+/* The strings "A", the empty one and "BC" of a record that starts at 8. */
+static const struct {
+    int line;
+    size_t at;
+    uint32_t k, refusal;
+    eventlog_part part;
+} asked[] = {
+    {__LINE__, 8, 0, 0, {.at = 96, .len = 2}},
+    {__LINE__, 8, 1, 0, {.at = 100, .len = 0}},
+    {__LINE__, 8, 2, 0, {.at = 102, .len = 4}},
+    {__LINE__, 8, 3, 17, {.at = 0, .len = 0}},
+    {__LINE__, 8, UINT32_MAX, 17, {.at = 0, .len = 0}},
+    {__LINE__, 9, 0, 2, {.at = 0, .len = 0}},
+    {__LINE__, 116, 0, 1, {.at = 0, .len = 0}},
+};
+
+static void strings_are_found(void)
+{
+    static const uint8_t three[] = {'A', 0, 0, 0, 0, 0, 'B', 0, 'C', 0, 0, 0};
+    uint8_t s[116];
+    fill(s, sizeof s);
+    event e = event_t;
+    e.f.num_strings = 3;
+    e.strings = (lent){three, sizeof three};
+    eventlog_written w = write_event(e, s + 8, sizeof s - 8);
+    CHECK(w.refusal == 0 && w.length == 108);
+    for (size_t i = 0; i < COUNT(asked); i++) {
+        eventlog_part part = eventlog_string(s, sizeof s, asked[i].at, asked[i].k);
+        CHECK_AT(asked[i].line, same_part(part, asked[i].part));
+        CHECK_AT(asked[i].line, eventlog_string_refusal(s, sizeof s, asked[i].at, asked[i].k) == asked[i].refusal);
+    }
+    eventlog_part part = eventlog_string(NULL, 0, 0, 0);
+    CHECK(part.at == 0 && part.len == 0);
+    CHECK(eventlog_string_refusal(NULL, 0, 0, 0) == 1);
+}
+
+/* ---- walk, walk_back ---- */
+
+static void walks_answer(void)
+{
+    uint8_t bad_s[END], bad_t[END];
+    memcpy(bad_s, batch, END);
+    memcpy(bad_t, batch, END);
+    bad_s[S + 24] = 3;
+    bad_t[T + 31] = 0x40;
+    const struct {
+        int line;
+        const uint8_t *s;
+        size_t len;
+        eventlog_walked front, rear;
+    } rows[] = {
+        {__LINE__, batch, END, {.count = 2, .refusal = 0}, {.count = 2, .refusal = 0}},
+        {__LINE__, batch, T, {.count = 1, .refusal = 0}, {.count = 1, .refusal = 0}},
+        {__LINE__, NULL, 0, {.count = 0, .refusal = 0}, {.count = 0, .refusal = 0}},
+        /* the last four of 167 bytes are 0, 104, 0, 0: a Length of 26,624 */
+        {__LINE__, batch, END - 1, {.count = 1, .refusal = 3}, {.count = 0, .refusal = 3}},
+        {__LINE__, batch, T + 63, {.count = 1, .refusal = 1}, {.count = 0, .refusal = 2}},
+        {__LINE__, batch + 1, END - 1, {.count = 0, .refusal = 2}, {.count = 1, .refusal = 1}},
+        {__LINE__, bad_s, END, {.count = 0, .refusal = 6}, {.count = 1, .refusal = 6}},
+        {__LINE__, bad_t, END, {.count = 1, .refusal = 7}, {.count = 0, .refusal = 7}},
+    };
+    for (size_t i = 0; i < COUNT(rows); i++) {
+        eventlog_walked front = eventlog_walk(rows[i].s, rows[i].len);
+        CHECK_AT(rows[i].line, front.count == rows[i].front.count && front.refusal == rows[i].front.refusal);
+        eventlog_walked rear = eventlog_walk_back(rows[i].s, rows[i].len);
+        CHECK_AT(rows[i].line, rear.count == rows[i].rear.count && rear.refusal == rows[i].rear.refusal);
+    }
+}
+
+/* ---- write ---- */
+
+static const uint8_t zeros[61441];
+static const uint8_t sid_of_15[68] = {1, 15};
+static const uint8_t sid_of_16[72] = {1, 16};
+static uint8_t ones[65470];
+
+/* Each output and its copy, which gets what is to be written. */
+static uint8_t out[524288], want[524288];
+
+static void lend(size_t n)
+{
+    fill(out, n);
+    memcpy(want, out, n);
+}
+
+static void writes(int line, event e, size_t out_len, const uint8_t *record, size_t length)
+{
+    lend(256);
+    memcpy(want, record, length);
+    eventlog_written w = write_event(e, out, out_len);
+    CHECK_AT(line, w.refusal == 0 && w.length == length);
+    CHECK_AT(line, memcmp(out, want, 256) == 0);
+}
+
+static void write_lays_out(void)
+{
+    writes(__LINE__, event_s, 128, batch + S, S_LENGTH);
+    writes(__LINE__, event_s, S_LENGTH, batch + S, S_LENGTH);
+    writes(__LINE__, event_t, 128, batch + T, T_LENGTH);
+    writes(__LINE__, event_t, T_LENGTH, batch + T, T_LENGTH);
+}
+
+static void write_refuses(int line, event e, size_t out_len, uint32_t refusal)
+{
+    lend(65540);
+    eventlog_written w = write_event(e, out, out_len);
+    CHECK_AT(line, w.refusal == refusal);
+    CHECK_AT(line, w.length == 0);
+    CHECK_AT(line, memcmp(out, want, 65540) == 0);
+}
+
+enum { LOG = 200 };
+
+/* The log is S and T and 32 bytes. */
+static void append_refuses(int line, size_t log_len, size_t used, event e, uint32_t refusal)
+{
+    uint8_t log[LOG], before[LOG];
+    fill(log, LOG);
+    memcpy(log, batch, END);
+    memcpy(before, log, LOG);
+    eventlog_appended a = append_event(log, log_len, used, e);
+    CHECK_AT(line, a.refusal == refusal);
+    CHECK_AT(line, a.used == used);
+    CHECK_AT(line, memcmp(log, before, LOG) == 0);
+}
+
+/* T with a change is neither written nor appended. */
+#define REFUSES(refusal, ...)                            \
+    do {                                                 \
+        event e = event_t;                               \
+        __VA_ARGS__;                                     \
+        write_refuses(__LINE__, e, 65540, refusal);      \
+        append_refuses(__LINE__, LOG, END, e, refusal);  \
+    } while (0)
+
+static void numbers_and_texts_are_refused(void)
+{
+    REFUSES(6, e.f.event_type = 3);
+    REFUSES(6, e.f.event_type = 32);
+    REFUSES(7, e.f.reserved_flags = 0x4000);
+    REFUSES(7, e.f.reserved_flags = 0x8001);
+    REFUSES(8, e.f.num_strings = 257; e.strings = (lent){zeros, 514});
+    REFUSES(9, e.source.len = 9);
+    REFUSES(9, e.source = (lent){zeros, 2});
+    REFUSES(9, e.computer.len = 3);
+    REFUSES(9, e.computer.len = 6);
+    REFUSES(10, e.sid.len = 11);
+    REFUSES(10, e.sid.len = 8);
+    REFUSES(10, e.sid = (lent){zeros, 8});
+    REFUSES(10, e.sid = (lent){ones, 7});
+    REFUSES(10, e.sid = (lent){sid_of_16, 72});
+    REFUSES(11, e.strings = (lent){NULL, 0});
+    REFUSES(11, e.strings.len = 4);
+    REFUSES(11, e.strings.len = 7);
+    REFUSES(11, e.f.num_strings = 0);
+    REFUSES(11, e.f.num_strings = 2);
+}
+
+static void sizes_are_refused(void)
+{
+    REFUSES(12, e.data = (lent){zeros, 61441});
+    REFUSES(2, e.source = (lent){ones, 65400}; e.computer = (lent){ones, 200});
+    REFUSES(2, e = event_s; e.source = (lent){ones, 65470});
+    write_refuses(__LINE__, event_t, T_LENGTH - 1, 15);
+    write_refuses(__LINE__, event_s, S_LENGTH - 1, 15);
+    eventlog_written w = write_event(event_s, NULL, 0);
+    CHECK(w.refusal == 15 && w.length == 0);
+}
+
+/* An event has every fault, and they are mended one by one. */
+static void write_refuses_in_order(void)
+{
+    event e = {.f = {.event_type = 3, .reserved_flags = 0x4000, .num_strings = 257}, .source = {ones, 65469},
+               .computer = {zeros, 2}, .sid = {zeros, 8}, .strings = {zeros, 3}, .data = {zeros, 61441}};
+    write_refuses(__LINE__, e, 63, 6);
+    e.f.event_type = 1;
+    write_refuses(__LINE__, e, 63, 7);
+    e.f.reserved_flags = 0;
+    write_refuses(__LINE__, e, 63, 8);
+    e.f.num_strings = 256;
+    write_refuses(__LINE__, e, 63, 9);
+    e.source.len = 65468;
+    write_refuses(__LINE__, e, 63, 9);
+    e.computer.len = 0;
+    write_refuses(__LINE__, e, 63, 10);
+    e.sid.len = 0;
+    write_refuses(__LINE__, e, 63, 11);
+    e.strings.len = 512;
+    write_refuses(__LINE__, e, 63, 12);
+    e.data.len = 61440;
+    write_refuses(__LINE__, e, 63, 2);
+    e.source.len = 0;
+    write_refuses(__LINE__, e, 63, 15);
+}
+
+static void write_accepts(int line, event e, size_t length)
+{
+    lend(65540);
+    eventlog_written w = write_event(e, out, length);
+    CHECK_AT(line, w.refusal == 0);
+    CHECK_AT(line, w.length == length);
+    CHECK_AT(line, memcmp(out + length, want + length, 65540 - length) == 0);
+    CHECK_AT(line, eventlog_refusal(out, length, 0) == 0);
+}
+
+/* S with a change is accepted and has this Length. */
+#define ACCEPTS(length, ...)                             \
+    do {                                                 \
+        event e = event_s;                               \
+        __VA_ARGS__;                                     \
+        write_accepts(__LINE__, e, length);              \
+    } while (0)
+
+static void write_accepts_types_and_limits(void)
+{
+    ACCEPTS(64, e.f.event_type = 1);
+    ACCEPTS(64, e.f.event_type = 2);
+    ACCEPTS(64, e.f.event_type = 4);
+    ACCEPTS(64, e.f.event_type = 8);
+    ACCEPTS(64, e.f.event_type = 16);
+    ACCEPTS(64, e.f.reserved_flags = 0x8000);
+    ACCEPTS(576, e.f.num_strings = 256; e.strings = (lent){zeros, 512});
+    ACCEPTS(65532, e.source = (lent){ones, 65468});
+    ACCEPTS(132, e.sid = (lent){sid_of_15, 68});
+    ACCEPTS(61504, e.data = (lent){zeros, 61440});
+}
+
+/* ---- append ---- */
+
+static void append_numbers(void)
+{
+    uint8_t log[LOG], after[LOG];
+    fill(log, LOG);
+    memcpy(after, log, LOG);
+    memcpy(after, batch + S, S_LENGTH);
+    memcpy(after + 8, (const uint8_t[]){1, 0, 0, 0}, 4);
+    eventlog_appended a = append_event(log, LOG, 0, event_s);
+    CHECK(a.refusal == 0 && a.used == T);
+    CHECK(memcmp(log, after, LOG) == 0);
+
+    memcpy(after + T, batch + T, T_LENGTH);
+    memcpy(after + T + 8, (const uint8_t[]){2, 0, 0, 0}, 4);
+    a = append_event(log, LOG, T, event_t);
+    CHECK(a.refusal == 0 && a.used == END);
+    CHECK(memcmp(log, after, LOG) == 0);
+    eventlog_record second = record_t(T);
+    second.fields.record_number = 2;
+    finds(__LINE__, eventlog_step(log, LOG, T), T, second);
+    finds(__LINE__, eventlog_step_back(log, LOG, END), END, second);
+}
+
+static void append_numbers_after_the_last(void)
+{
+    uint8_t log[LOG], after[LOG];
+    fill(log, LOG);
+    memcpy(log, batch + S, S_LENGTH);
+    memset(log + 8, 255, 4);
+    memcpy(after, log, LOG);
+    memcpy(after + T, batch + T, T_LENGTH);
+    memcpy(after + T + 8, (const uint8_t[]){0, 0, 0, 0}, 4);
+    eventlog_appended a = append_event(log, END, T, event_t);
+    CHECK(a.refusal == 0 && a.used == END);
+    CHECK(memcmp(log, after, LOG) == 0);
+}
+
+static void append_refuses_in_order(void)
+{
+    event bad = event_t;
+    bad.f.event_type = 3;
+    append_refuses(__LINE__, END, END + 1, event_t, 1);
+    append_refuses(__LINE__, END, SIZE_MAX, bad, 1);
+    append_refuses(__LINE__, 0, 1, event_t, 1);
+    append_refuses(__LINE__, LOG, 63, event_t, 14);
+    append_refuses(__LINE__, LOG, 65, event_t, 14);
+    append_refuses(__LINE__, LOG, LOG, event_t, 14);
+    append_refuses(__LINE__, LOG, END - 1, bad, 14);
+    append_refuses(__LINE__, LOG, 0, bad, 6);
+    append_refuses(__LINE__, END, END, bad, 6);
+    append_refuses(__LINE__, LOG, END, event_t, 15);
+    append_refuses(__LINE__, END, END, event_t, 15);
+    append_refuses(__LINE__, END - 1, T, event_t, 15);
+    append_refuses(__LINE__, T_LENGTH - 1, 0, event_t, 15);
+    eventlog_appended a = append_event(NULL, 0, 0, event_s);
+    CHECK(a.refusal == 15 && a.used == 0);
+    a = append_event(NULL, 0, 1, event_s);
+    CHECK(a.refusal == 1 && a.used == 1);
+}
+
+/* ---- fresh, read ---- */
+
+/* Every kind but 0 is a boundary. */
+#define FRESH {.kind = 0, .boundary = 0}
+#define BOUNDARY(b) {.kind = 7, .boundary = (b)}
+
+enum { FORWARDS = 5, BACKWARDS = 9, SEEK_FORWARDS = 6, SEEK_BACKWARDS = 10 };
+
+/* Reads of the first bytes of S and T: what is copied, S or T, and the new boundary. */
+static const struct {
+    int line;
+    eventlog_handle h;
+    size_t log_len;
+    uint32_t flags, number;
+    size_t size;
+    const char *records;
+    size_t boundary;
+} reads[] = {
+    {__LINE__, FRESH, END, FORWARDS, 0, 64, "S", T},
+    {__LINE__, FRESH, END, FORWARDS, 0, 167, "S", T},
+    {__LINE__, FRESH, END, FORWARDS, 9, 168, "ST", END},
+    {__LINE__, FRESH, END, FORWARDS, 0, 524287, "ST", END},
+    {__LINE__, FRESH, END, BACKWARDS, 0, 168, "TS", 0},
+    {__LINE__, FRESH, END, BACKWARDS, 0, 167, "T", T},
+    {__LINE__, BOUNDARY(T), END, FORWARDS, 0, 104, "T", END},
+    {__LINE__, BOUNDARY(T), END, BACKWARDS, 0, 104, "S", 0},
+    {__LINE__, BOUNDARY(END), END, BACKWARDS, 0, 104, "T", T},
+    /* a fresh handle's boundary is not looked at */
+    {__LINE__, {.kind = 0, .boundary = END + 1}, END, FORWARDS, 0, 168, "ST", END},
+    {__LINE__, FRESH, END, SEEK_FORWARDS, S_NUMBER, 168, "ST", END},
+    {__LINE__, FRESH, END, SEEK_FORWARDS, T_NUMBER, 168, "T", END},
+    {__LINE__, BOUNDARY(END), END, SEEK_FORWARDS, S_NUMBER, 64, "S", T},
+    {__LINE__, FRESH, END, SEEK_BACKWARDS, S_NUMBER, 168, "S", 0},
+    {__LINE__, FRESH, END, SEEK_BACKWARDS, T_NUMBER, 168, "TS", 0},
+    {__LINE__, BOUNDARY(0), END, SEEK_BACKWARDS, T_NUMBER, 167, "T", T},
+    /* before a record that refuses */
+    {__LINE__, FRESH, END - 1, FORWARDS, 0, 168, "S", T},
+    {__LINE__, FRESH, END - 1, SEEK_FORWARDS, S_NUMBER, 168, "S", T},
+};
+
+static void read_copies(void)
+{
+    for (size_t i = 0; i < COUNT(reads); i++) {
+        lend(sizeof out);
+        size_t read = 0;
+        for (const char *c = reads[i].records; *c != 0; c++) {
+            size_t length = *c == 'S' ? S_LENGTH : T_LENGTH;
+            memcpy(want + read, batch + (*c == 'S' ? S : T), length);
+            read += length;
+        }
+        eventlog_answer r = eventlog_read(reads[i].h, batch, reads[i].log_len, reads[i].flags, reads[i].number,
+                                          reads[i].size, out, reads[i].size);
+        CHECK_AT(reads[i].line, r.status == 0);
+        CHECK_AT(reads[i].line, r.read == read && r.needed == 0);
+        CHECK_AT(reads[i].line, r.handle.kind == 1 && r.handle.boundary == reads[i].boundary);
+        CHECK_AT(reads[i].line, memcmp(out, want, sizeof out) == 0);
+    }
+}
+
+/* Reads that are refused; where two statuses could apply, the first of them. */
+static const struct {
+    int line;
+    eventlog_handle h;
+    size_t log_len;
+    uint32_t flags, number;
+    size_t size, out_len;
+    uint32_t status;
+    size_t needed;
+} unread[] = {
+    {__LINE__, FRESH, END, 0, 0, 168, 168, 0xC000000D, 0},
+    {__LINE__, FRESH, END, 1, 0, 168, 168, 0xC000000D, 0},
+    {__LINE__, FRESH, END, 4, 0, 168, 168, 0xC000000D, 0},
+    {__LINE__, FRESH, END, 7, 7, 168, 168, 0xC000000D, 0},
+    {__LINE__, FRESH, END, 13, 0, 168, 168, 0xC000000D, 0},
+    {__LINE__, FRESH, END, 16 + FORWARDS, 0, 168, 168, 0xC000000D, 0},
+    {__LINE__, FRESH, END, 0x80000000 + BACKWARDS, 0, 168, 168, 0xC000000D, 0},
+    {__LINE__, BOUNDARY(T), END, 3, 0, 168, 168, 0xC000000D, 0},
+    {__LINE__, {.kind = 0, .boundary = T}, END, 12, 0, 168, 168, 0xC000000D, 0},
+    {__LINE__, FRESH, END, FORWARDS, 0, 524288, 524288, 0xC000000D, 0},
+    {__LINE__, FRESH, END, FORWARDS, 0, SIZE_MAX, 168, 0xC000000D, 0},
+    {__LINE__, FRESH, END, FORWARDS, 0, 168, 167, 0xC000000D, 0},
+    {__LINE__, BOUNDARY(END + 1), END, 7, 0, 168, 168, 0xC000000D, 0},
+    {__LINE__, BOUNDARY(END + 1), END, FORWARDS, 0, 168, 167, 0xC000000D, 0},
+    {__LINE__, BOUNDARY(END + 1), END, FORWARDS, 0, 168, 168, 0xC0000008, 0},
+    {__LINE__, BOUNDARY(SIZE_MAX), END, BACKWARDS, 0, 168, 168, 0xC0000008, 0},
+    {__LINE__, BOUNDARY(END + 1), END, SEEK_FORWARDS, 9, 168, 168, 0xC0000008, 0},
+    {__LINE__, BOUNDARY(END), END - 1, SEEK_FORWARDS, T_NUMBER, 168, 168, 0xC0000008, 0},
+    {__LINE__, FRESH, END - 1, SEEK_FORWARDS, T_NUMBER, 168, 168, 0xC000018E, 0},
+    {__LINE__, BOUNDARY(T), END - 1, SEEK_BACKWARDS, 9, 168, 168, 0xC000018E, 0},
+    {__LINE__, FRESH, END, SEEK_FORWARDS, 9, 168, 168, 0xC000000D, 0},
+    {__LINE__, BOUNDARY(T), END, SEEK_BACKWARDS, 9, 0, 168, 0xC000000D, 0},
+    {__LINE__, FRESH, 0, SEEK_FORWARDS, 0, 168, 168, 0xC000000D, 0},
+    {__LINE__, FRESH, 0, FORWARDS, 0, 0, 168, 0xC0000011, 0},
+    {__LINE__, FRESH, 0, BACKWARDS, 0, 168, 168, 0xC0000011, 0},
+    {__LINE__, BOUNDARY(END), END, FORWARDS, 0, 168, 168, 0xC0000011, 0},
+    {__LINE__, BOUNDARY(0), END, BACKWARDS, 0, 168, 168, 0xC0000011, 0},
+    {__LINE__, BOUNDARY(T), END - 1, FORWARDS, 0, 0, 168, 0xC000018E, 0},
+    {__LINE__, FRESH, END - 1, BACKWARDS, 0, 168, 168, 0xC000018E, 0},
+    {__LINE__, BOUNDARY(END - 1), END, FORWARDS, 0, 168, 168, 0xC000018E, 0},
+    {__LINE__, FRESH, END, FORWARDS, 0, 0, 168, 0xC0000023, 64},
+    {__LINE__, BOUNDARY(T), END, FORWARDS, 0, 103, 168, 0xC0000023, 104},
+    {__LINE__, FRESH, END, BACKWARDS, 0, 103, 103, 0xC0000023, 104},
+    {__LINE__, BOUNDARY(0), END, SEEK_FORWARDS, T_NUMBER, 103, 168, 0xC0000023, 104},
+    {__LINE__, FRESH, END, SEEK_BACKWARDS, S_NUMBER, 63, 168, 0xC0000023, 64},
+};
+
+static void read_refuses(void)
+{
+    for (size_t i = 0; i < COUNT(unread); i++) {
+        lend(sizeof out);
+        eventlog_answer r = eventlog_read(unread[i].h, batch, unread[i].log_len, unread[i].flags, unread[i].number,
+                                          unread[i].size, out, unread[i].out_len);
+        CHECK_AT(unread[i].line, r.status == unread[i].status);
+        CHECK_AT(unread[i].line, r.read == 0 && r.needed == unread[i].needed);
+        CHECK_AT(unread[i].line, r.handle.kind == unread[i].h.kind);
+        CHECK_AT(unread[i].line, r.handle.boundary == unread[i].h.boundary);
+        CHECK_AT(unread[i].line, memcmp(out, want, sizeof out) == 0);
+    }
+}
+
+static void read_goes_on(void)
+{
+    eventlog_handle h = eventlog_fresh();
+    CHECK(h.kind == 0 && h.boundary == 0);
+    eventlog_answer r = eventlog_read(h, batch, END, FORWARDS, 0, 64, out, sizeof out);
+    CHECK(r.status == 0 && r.read == 64 && r.handle.boundary == T);
+    r = eventlog_read(r.handle, batch, END, FORWARDS, 0, 104, out, sizeof out);
+    CHECK(r.status == 0 && r.read == 104 && r.handle.boundary == END);
+    r = eventlog_read(r.handle, batch, END, FORWARDS, 0, 104, out, sizeof out);
+    CHECK(r.status == 0xC0000011 && r.handle.kind == 1 && r.handle.boundary == END);
+
+    r = eventlog_read(h, NULL, 0, FORWARDS, 0, 0, NULL, 0);
+    CHECK(r.status == 0xC0000011 && r.read == 0 && r.needed == 0 && r.handle.kind == 0);
+
+    /* T ends these 167 bytes; no record ends with the 63 before it. */
+    r = eventlog_read(h, batch + 1, END - 1, BACKWARDS, 0, 168, out, sizeof out);
+    CHECK(r.status == 0 && r.read == 104 && r.handle.boundary == 63);
+    r = eventlog_read(r.handle, batch + 1, END - 1, BACKWARDS, 0, 168, out, sizeof out);
+    CHECK(r.status == 0xC000018E && r.read == 0 && r.handle.boundary == 63);
+
+    /* Of two records with the number a seek takes the first. */
+    uint8_t twice[2 * S_LENGTH];
+    memcpy(twice, batch, S_LENGTH);
+    memcpy(twice + S_LENGTH, batch, S_LENGTH);
+    r = eventlog_read(h, twice, sizeof twice, SEEK_FORWARDS, S_NUMBER, 64, out, sizeof out);
+    CHECK(r.status == 0 && r.handle.boundary == S_LENGTH);
+}
+
+/* ---- listing ---- */
+
+static void listing_answers(void)
+{
+    static const struct {
+        int line;
+        size_t len, out_len;
+        uint32_t refusal;
+        const char *text;
+    } rows[] = {
+        {__LINE__, END, END + 64, 0, "records 2\n0 64 7\n64 104 336794129\n"},
+        {__LINE__, END, END + 63, 15, ""},
+        {__LINE__, END - 1, END + 63, 0, "refused 3 at 64\n"},
+        {__LINE__, END - 1, END + 62, 15, ""},
+        {__LINE__, S_LENGTH, 256, 0, "records 1\n0 64 7\n"},
+        {__LINE__, 1, 65, 0, "refused 1 at 0\n"},
+        {__LINE__, 0, 64, 0, "records 0\n"},
+        {__LINE__, 0, 63, 15, ""},
+    };
+    for (size_t i = 0; i < COUNT(rows); i++) {
+        lend(256);
+        memcpy(want, rows[i].text, strlen(rows[i].text));
+        eventlog_written w = eventlog_listing(batch, rows[i].len, out, rows[i].out_len);
+        CHECK_AT(rows[i].line, w.refusal == rows[i].refusal);
+        CHECK_AT(rows[i].line, w.length == strlen(rows[i].text));
+        CHECK_AT(rows[i].line, memcmp(out, want, 256) == 0);
+    }
+    eventlog_written w = eventlog_listing(NULL, 0, out, 64);
+    CHECK(w.refusal == 0 && w.length == 10 && memcmp(out, "records 0\n", 10) == 0);
+    w = eventlog_listing(NULL, 0, NULL, 0);
+    CHECK(w.refusal == 15 && w.length == 0);
 }
 
 int main(void)
 {
-    write_and_step();
-    append_and_read();
+    memset(ones, 1, sizeof ones);
+    steps_find();
+    steps_refuse_places();
+    spoilt_records_are_refused();
+    strings_are_found();
+    walks_answer();
+    write_lays_out();
+    numbers_and_texts_are_refused();
+    sizes_are_refused();
+    write_refuses_in_order();
+    write_accepts_types_and_limits();
+    append_numbers();
+    append_numbers_after_the_last();
+    append_refuses_in_order();
+    read_copies();
+    read_refuses();
+    read_goes_on();
+    listing_answers();
     puts(failed ? "eventlog.c: failed" : "eventlog.c: passed");
     return failed;
 }
