@@ -6,7 +6,7 @@ cd "$(dirname "$0")"
 if ! command -v evtexport >/dev/null || ! command -v ndrdump >/dev/null; then
     apt-get install --yes libevt-utils samba-testsuite
 fi
-[ -f ../target/staticlib/libeventlog.a ] || (cd .. && rt staticlib eventlog)
+(cd .. && rt staticlib eventlog >/dev/null)
 room=$(mktemp -d)
 trap 'rm -rf "$room"' EXIT
 cargo run --release --offline --quiet --bin readers "$room"

@@ -18,16 +18,6 @@ pub struct Fields {
     pub reserved_flags: u16,
 }
 
-/// What a walk found.
-#[repr(C)]
-#[derive(Clone, Copy, Debug, Default, PartialEq, Eq)]
-pub struct Walked {
-    /// Records found before the walk ended.
-    pub count: usize,
-    /// The refusal that ended the walk, 0 where the buffer was used up.
-    pub refusal: u32,
-}
-
 #[repr(C)]
 struct Unnumbered {
     time_generated: u32,
@@ -40,13 +30,14 @@ struct Unnumbered {
 }
 
 #[repr(C)]
-#[derive(Clone, Copy)]
+#[derive(Clone, Copy, Debug, Default, PartialEq, Eq)]
 pub(crate) struct Part {
     pub at: usize,
     pub len: usize,
 }
 
 #[repr(C)]
+#[derive(Debug, Default, PartialEq, Eq)]
 pub(crate) struct Record {
     pub start: usize,
     pub length: usize,
@@ -59,6 +50,7 @@ pub(crate) struct Record {
 }
 
 #[repr(C)]
+#[derive(Debug, PartialEq, Eq)]
 pub(crate) struct Stepped {
     pub refusal: u32,
     pub at: usize,
@@ -66,12 +58,20 @@ pub(crate) struct Stepped {
 }
 
 #[repr(C)]
+pub(crate) struct Walked {
+    pub count: usize,
+    pub refusal: u32,
+}
+
+#[repr(C)]
+#[derive(Debug, PartialEq, Eq)]
 pub(crate) struct Written {
     pub refusal: u32,
     pub length: usize,
 }
 
 #[repr(C)]
+#[derive(Debug, PartialEq, Eq)]
 pub(crate) struct Appended {
     pub refusal: u32,
     pub used: usize,
@@ -85,6 +85,7 @@ pub(crate) struct Handle {
 }
 
 #[repr(C)]
+#[derive(Debug, PartialEq, Eq)]
 pub(crate) struct Answer {
     pub status: u32,
     pub read: usize,
@@ -281,14 +282,214 @@ pub(crate) fn listing(s: &[u8], out: &mut [u8]) -> Written {
 mod tests {
     use super::*;
 
+    /// Sample T's event, with data that is not zero.
+    const EVENT: Event<'static> = Event {
+        fields: Fields {
+            record_number: 8,
+            time_generated: 0,
+            time_written: 0,
+            event_id: 0,
+            event_type: 0,
+            num_strings: 1,
+            event_category: 0,
+            reserved_flags: 0,
+        },
+        source_name: b"S\0c\0a\0l\0e\0",
+        computer_name: b"T\x001\0",
+        sid: &[1, 1, 0, 0, 0, 0, 0, 0, 0, 0, 0, 0],
+        strings: b"O\0K\0\0\0",
+        event_data: &[1, 2, 3],
+    };
+    const LENGTH: usize = 104;
+
+    fn record() -> Vec<u8> {
+        let mut record = vec![0; LENGTH];
+        let written = Written {
+            refusal: 0,
+            length: LENGTH,
+        };
+        assert_eq!(write(&EVENT, &mut record), written);
+        record
+    }
+
+    fn changed(changes: &[(usize, u8)]) -> Vec<u8> {
+        let mut record = record();
+        for (at, byte) in changes {
+            record[*at] = *byte;
+        }
+        record
+    }
+
+    /// Bytes with each refusal of the reader, the same from the front and from
+    /// the rear.
+    fn refused_records() -> [(u32, Vec<u8>); 13] {
+        let no_zero_unit: Vec<(usize, u8)> = (56..LENGTH - 4).map(|at| (at, 1)).collect();
+        [
+            (1, vec![]),
+            (2, changed(&[(0, 60), (LENGTH - 4, 60)])),
+            (3, changed(&[(0, 200), (LENGTH - 4, 200)])),
+            (4, changed(&[(4, 0)])),
+            (5, changed(&[(0, 100)])),
+            (6, changed(&[(24, 3)])),
+            (7, changed(&[(31, 0x40)])),
+            (8, changed(&[(27, 1)])),
+            (9, changed(&no_zero_unit)),
+            (10, changed(&[(44, 77)])),
+            (11, changed(&[(36, 90)])),
+            (12, changed(&[(52, 95)])),
+            (13, changed(&[(48, 2)])),
+        ]
+    }
+
+    /// Events with each refusal of the writer but that of the output.
+    fn refused_events() -> [(u32, Event<'static>); 8] {
+        let with = |change: fn(&mut Event<'static>)| {
+            let mut event = EVENT;
+            change(&mut event);
+            event
+        };
+        [
+            (6, with(|e| e.fields.event_type = 3)),
+            (7, with(|e| e.fields.reserved_flags = 1)),
+            (8, with(|e| e.fields.num_strings = 257)),
+            (9, with(|e| e.computer_name = b"T")),
+            (10, with(|e| e.sid = &[1])),
+            (11, with(|e| e.strings = &[])),
+            (12, with(|e| e.event_data = &[0; 61_441])),
+            (2, with(|e| e.source_name = &[1; 65_532])),
+        ]
+    }
+
+    /// Behind eight bytes, so that the place is not 0.
+    fn behind_8(record: &[u8]) -> Vec<u8> {
+        [&[0xEE; 8], record].concat()
+    }
+
+    #[test]
+    fn steps_answer_the_place_asked_for() {
+        let s = behind_8(&record());
+        let end = 8 + LENGTH;
+        for (stepped, at) in [(step(&s, 8), 8), (step_back(&s, end), end)] {
+            let Stepped { refusal, found, .. } = stepped;
+            assert_eq!((refusal, stepped.at), (0, at));
+            assert_eq!((found.start, found.length), (8, LENGTH));
+        }
+    }
+
+    #[test]
+    fn refused_steps_find_nothing() {
+        for (refusal, record) in refused_records() {
+            let s = behind_8(&record);
+            let nothing = |at| Stepped {
+                refusal,
+                at,
+                found: Record::default(),
+            };
+            assert_eq!(step(&s, 8), nothing(8));
+            assert_eq!(step_back(&s, s.len()), nothing(s.len()));
+            assert_eq!(string_refusal(&s, 8, 0), refusal);
+            assert_eq!(string(&s, 8, 0), Part::default());
+        }
+    }
+
+    #[test]
+    fn refused_strings_lie_nowhere() {
+        let s = behind_8(&record());
+        assert_eq!(string(&s, 8, 0), Part { at: 96, len: 4 });
+        for k in [1, 256, u32::MAX] {
+            assert_eq!(string_refusal(&s, 8, k), 17);
+            assert_eq!(string(&s, 8, k), Part::default());
+        }
+    }
+
+    #[test]
+    fn refused_writes_have_no_length() {
+        let refused = |refusal| Written { refusal, length: 0 };
+        let mut out = [0xEE; 200];
+        for (refusal, event) in refused_events() {
+            assert_eq!(write(&event, &mut out), refused(refusal));
+        }
+        assert_eq!(write(&EVENT, &mut out[..LENGTH - 1]), refused(15));
+        let log = record();
+        assert_eq!(listing(&log, &mut out[..LENGTH + 63]), refused(15));
+        assert_eq!(out, [0xEE; 200]);
+    }
+
+    #[test]
+    fn refused_appends_have_the_old_length() {
+        let mut log = [&record()[..], &[0xEE; LENGTH - 1]].concat();
+        let old = log.clone();
+        for (refusal, used) in [
+            (1, LENGTH * 2),
+            (1, usize::MAX),
+            (14, 1),
+            (14, LENGTH - 1),
+            (14, LENGTH + 1),
+            (15, LENGTH),
+        ] {
+            assert_eq!(append(&mut log, used, &EVENT), Appended { refusal, used });
+        }
+        for (refusal, event) in refused_events() {
+            for used in [0, LENGTH] {
+                assert_eq!(append(&mut log, used, &event), Appended { refusal, used });
+            }
+        }
+        assert_eq!(log, old);
+    }
+
+    #[test]
+    fn refused_reads_read_nothing() {
+        let whole = [record(), record()].concat();
+        let broken = [record(), changed(&[(4, 0)])].concat();
+        let boundary = |boundary| Handle { kind: 1, boundary };
+        let end = whole.len();
+        let mut out = [0xEE; 208];
+        for (status, needed, log, handle, flags, number, size) in [
+            (0xC000_000D, 0, &whole, boundary(LENGTH), 0, 0, LENGTH),
+            (0xC000_000D, 0, &whole, fresh(), 5, 0, end + 1),
+            (0xC000_000D, 0, &whole, fresh(), 6, 9, end),
+            (0xC000_0008, 0, &whole, boundary(end + 1), 5, 0, end),
+            (0xC000_0011, 0, &whole, boundary(end), 5, 0, end),
+            (0xC000_0011, 0, &whole, boundary(0), 9, 0, end),
+            (0xC000_0023, LENGTH, &whole, fresh(), 5, 0, LENGTH - 1),
+            (0xC000_0023, LENGTH, &whole, boundary(LENGTH), 9, 0, 0),
+            (0xC000_018E, 0, &broken, boundary(LENGTH), 5, 0, end),
+            (0xC000_018E, 0, &broken, fresh(), 6, 9, end),
+        ] {
+            let refused = Answer {
+                status,
+                read: 0,
+                needed,
+                handle,
+            };
+            assert_eq!(read(handle, log, flags, number, size, &mut out), refused);
+        }
+        assert_eq!(out, [0xEE; 208]);
+    }
+
+    #[test]
+    fn a_read_needs_nothing() {
+        let read = read(fresh(), &record(), 5, 0, LENGTH, &mut [0; LENGTH]);
+        let handle = Handle {
+            kind: 1,
+            boundary: LENGTH,
+        };
+        let expected = Answer {
+            status: 0,
+            read: LENGTH,
+            needed: 0,
+            handle,
+        };
+        assert_eq!(read, expected);
+    }
+
     #[test]
     fn every_kind_but_0_is_a_boundary() {
         assert_eq!(fresh().kind, 0);
         for kind in [1, 2, 7, u32::MAX] {
             let past = Handle { kind, boundary: 1 };
             let answer = read(past, &[], 5, 0, 0, &mut []);
-            assert_eq!((answer.status, answer.handle.boundary), (0xC000_0008, 1));
-            assert_ne!(answer.handle.kind, 0);
+            assert_eq!((answer.status, answer.handle), (0xC000_0008, past));
             let end = Handle { kind, boundary: 0 };
             assert_eq!(read(end, &[], 5, 0, 0, &mut []).status, 0xC000_0011);
         }
@@ -297,6 +498,7 @@ mod tests {
             kind: 0,
             boundary: 9,
         };
-        assert_eq!(read(fresh, &[], 5, 0, 0, &mut []).status, 0xC000_0011);
+        let answer = read(fresh, &[], 5, 0, 0, &mut []);
+        assert_eq!((answer.status, answer.handle), (0xC000_0011, fresh));
     }
 }

@@ -1,7 +1,7 @@
 //! Records, strings and walks.
 
-use crate::ffi::{self, Fields, Part, Stepped, Walked};
-use crate::unless_refused;
+use crate::ffi::{self, Fields, Part, Stepped};
+use crate::refused::Refused;
 
 /// A good record. Its parts are the lent buffer's own bytes; the `_at` fields
 /// are their places in that buffer. An absent part is empty.
@@ -39,10 +39,19 @@ pub struct Record<'a> {
 /// [`step`], the end in [`step_back`].
 #[derive(Clone, Copy, Debug, PartialEq, Eq)]
 pub struct Refusal {
-    /// 1 to 13 of [`refused`](crate::refused).
-    pub number: u32,
+    /// One of the reader's, numbers 1 to 13.
+    pub why: Refused,
     /// The place asked for.
     pub at: usize,
+}
+
+/// What a walk found.
+#[derive(Clone, Copy, Debug, Default, PartialEq, Eq)]
+pub struct Walked {
+    /// Records found before the walk ended.
+    pub count: usize,
+    /// The refusal that ended the walk, `None` where the buffer was used up.
+    pub refusal: Option<Refused>,
 }
 
 /// Reads the record that starts at `at`.
@@ -55,36 +64,45 @@ pub fn step_back(s: &[u8], end: usize) -> Result<Record<'_>, Refusal> {
     record(s, ffi::step_back(s, end))
 }
 
-/// The number with which a record at `at` is refused, 0 for none.
-pub fn refusal(s: &[u8], at: usize) -> u32 {
-    ffi::refusal(s, at)
+/// Why the record at `at` is refused, if it is.
+pub fn refusal(s: &[u8], at: usize) -> Option<Refused> {
+    Refused::from_number(ffi::refusal(s, at))
 }
 
 /// String `k` of the record at `at`, counted from 0, without its zero unit.
 /// The record is judged before the number of the string.
-pub fn string(s: &[u8], at: usize, k: u32) -> Result<&[u8], u32> {
-    unless_refused(ffi::string_refusal(s, at, k), ())?;
+pub fn string(s: &[u8], at: usize, k: u32) -> Result<&[u8], Refused> {
+    Refused::unless(ffi::string_refusal(s, at, k), ())?;
     Ok(lent(s, ffi::string(s, at, k)))
 }
 
-/// The number with which string `k` of the record at `at` is refused, 0 for none.
-pub fn string_refusal(s: &[u8], at: usize, k: u32) -> u32 {
-    ffi::string_refusal(s, at, k)
+/// Why string `k` of the record at `at` is refused, if it is.
+pub fn string_refusal(s: &[u8], at: usize, k: u32) -> Option<Refused> {
+    Refused::from_number(ffi::string_refusal(s, at, k))
 }
 
 /// Steps from the front until the buffer is used up or a step refuses.
 pub fn walk(s: &[u8]) -> Walked {
-    ffi::walk(s)
+    ffi::walk(s).into()
 }
 
 /// Steps from the rear until the buffer is used up or a step refuses.
 pub fn walk_back(s: &[u8]) -> Walked {
-    ffi::walk_back(s)
+    ffi::walk_back(s).into()
+}
+
+impl From<ffi::Walked> for Walked {
+    fn from(walked: ffi::Walked) -> Self {
+        Walked {
+            count: walked.count,
+            refusal: Refused::from_number(walked.refusal),
+        }
+    }
 }
 
 fn record(s: &[u8], stepped: Stepped) -> Result<Record<'_>, Refusal> {
     let Stepped { refusal, at, found } = stepped;
-    unless_refused(refusal, ()).map_err(|number| Refusal { number, at })?;
+    Refused::unless(refusal, ()).map_err(|why| Refusal { why, at })?;
     Ok(Record {
         start: found.start,
         length: found.length,
@@ -102,9 +120,8 @@ fn record(s: &[u8], stepped: Stepped) -> Result<Record<'_>, Refusal> {
     })
 }
 
-/// The part's bytes; it is proved to lie in `s`.
+/// The part's bytes. It is proved to lie in `s`; a panic tells that the structs
+/// here and in the library are laid out differently.
 fn lent(s: &[u8], part: Part) -> &[u8] {
-    s.get(part.at..)
-        .and_then(|from| from.get(..part.len))
-        .unwrap_or_default()
+    &s[part.at..][..part.len]
 }

@@ -1,7 +1,7 @@
 //! Writing a record, appending one to a log, and the listing's text.
 
 use crate::ffi::{self, Fields};
-use crate::unless_refused;
+use crate::refused::Refused;
 
 /// All that writing takes but the output.
 #[derive(Clone, Copy, Debug, Default, PartialEq, Eq)]
@@ -20,25 +20,25 @@ pub struct Event<'a> {
     pub event_data: &'a [u8],
 }
 
-/// Writes `e` as a record at the start of `out`. Returns its Length, or the
-/// refusal's number with `out` unchanged.
-pub fn write(e: &Event<'_>, out: &mut [u8]) -> Result<usize, u32> {
+/// Writes `e` as a record at the start of `out`. Returns its Length; a refusal
+/// leaves `out` unchanged.
+pub fn write(e: &Event<'_>, out: &mut [u8]) -> Result<usize, Refused> {
     let written = ffi::write(e, out);
-    unless_refused(written.refusal, written.length)
+    Refused::unless(written.refusal, written.length)
 }
 
 /// Appends `e` to the first `used` bytes of `log`, numbered one above the last
 /// record there, or 1; `e`'s own record number is ignored. Returns the new
-/// used length, or the refusal's number with `log` unchanged.
-pub fn append(log: &mut [u8], used: usize, e: &Event<'_>) -> Result<usize, u32> {
+/// used length; a refusal leaves `log` unchanged.
+pub fn append(log: &mut [u8], used: usize, e: &Event<'_>) -> Result<usize, Refused> {
     let appended = ffi::append(log, used, e);
-    unless_refused(appended.refusal, appended.used)
+    Refused::unless(appended.refusal, appended.used)
 }
 
 /// Writes the listing of a batch as text at the start of `out`, which must be
-/// 64 bytes longer than the batch. Returns the text's length, or 15 with `out`
-/// unchanged.
-pub fn listing(s: &[u8], out: &mut [u8]) -> Result<usize, u32> {
+/// 64 bytes longer than the batch. Returns the text's length; a shorter `out`
+/// is refused with [`Refused::Output`] and left unchanged.
+pub fn listing(s: &[u8], out: &mut [u8]) -> Result<usize, Refused> {
     let written = ffi::listing(s, out);
-    unless_refused(written.refusal, written.length)
+    Refused::unless(written.refusal, written.length)
 }

@@ -1,6 +1,10 @@
 //! One input given to both libraries; a difference panics.
 
+use std::collections::HashSet;
 use std::fmt::{Debug, Write};
+use std::hash::{DefaultHasher, Hasher};
+
+use eventlog::Refused;
 
 use crate::make::Made;
 
@@ -19,6 +23,54 @@ pub enum Call {
 
 pub const CALLS: usize = Call::Listing as usize + 1;
 
+/// The calls that judge a buffer, at one place or as a whole.
+const JUDGES: [Call; 4] = [Call::Step, Call::StepBack, Call::Walk, Call::WalkBack];
+
+/// What has to occur beside every refusal and status. Far is a place past
+/// 65,536, long a batch of more bytes than that, large a record of at least
+/// half of them.
+#[derive(Clone, Copy, Debug, PartialEq, Eq)]
+pub enum Case {
+    /// A record read at a far place.
+    FarRecord,
+    /// A record read that ends at a far place.
+    FarRecordBack,
+    /// A string of a record at a far place.
+    FarString,
+    /// A record appended at a far place.
+    FarAppend,
+    /// A long batch listed.
+    LongListing,
+    /// A long batch listed as refused.
+    LongListingRefused,
+    /// A large record appended, with room to spare.
+    LargeAppend,
+    /// A large record appended, with exactly as much room as it takes.
+    LargeAppendExact,
+    /// A large record refused for one byte of room.
+    LargeAppendRefused,
+    /// A record appended behind the number 4,294,967,295.
+    WrappedNumber,
+}
+
+pub const CASES: [Case; 10] = [
+    Case::FarRecord,
+    Case::FarRecordBack,
+    Case::FarString,
+    Case::FarAppend,
+    Case::LongListing,
+    Case::LongListingRefused,
+    Case::LargeAppend,
+    Case::LargeAppendExact,
+    Case::LargeAppendRefused,
+    Case::WrappedNumber,
+];
+
+/// Where far and long begin: what 16 bits count, and the listing program's limit.
+const FAR: usize = 65_536;
+/// Where large begins.
+const LARGE: usize = FAR / 2;
+
 /// The six statuses.
 pub const STATUSES: [u32; 6] = [
     0,
@@ -35,22 +87,23 @@ pub const FLAGS: [u32; 4] = [5, 9, 6, 10];
 /// What was compared, and with which answers.
 #[derive(Clone, Debug, Default)]
 pub struct Tally {
-    /// Calls of step and step_back.
-    pub judged: u64,
+    /// Different buffers that were judged, each counted once in a round.
+    pub buffers: u64,
     pub calls: u64,
     /// By call and refusal, 0 for none.
     pub refusals: [[u64; 18]; CALLS],
     /// By kind of flags and status.
     pub statuses: [[u64; 6]; 5],
-    /// Appends behind the number 4,294,967,295.
-    pub wrapped: u64,
+    pub cases: [u64; CASES.len()],
 }
 
 impl Tally {
     pub fn add(&mut self, other: &Tally) {
-        self.judged += other.judged;
+        self.buffers += other.buffers;
         self.calls += other.calls;
-        self.wrapped += other.wrapped;
+        for (sum, n) in self.cases.iter_mut().zip(other.cases) {
+            *sum += n;
+        }
         let more = other.refusals.as_flattened();
         for (sum, n) in self.refusals.as_flattened_mut().iter_mut().zip(more) {
             *sum += n;
@@ -63,6 +116,13 @@ impl Tally {
 
     pub fn met(&self, call: Call, number: u32) -> u64 {
         self.refusals[call as usize][number as usize]
+    }
+
+    /// Calls that judged a buffer: how many, and how many refused nothing.
+    pub fn judgements(&self) -> (u64, u64) {
+        let all = JUDGES.map(|call| self.refusals[call as usize].iter().sum::<u64>());
+        let good = JUDGES.map(|call| self.met(call, 0));
+        (all.iter().sum(), good.iter().sum())
     }
 }
 
@@ -100,7 +160,7 @@ struct Seen {
 type Answered = Result<Seen, (u32, usize)>;
 
 fn seen_proved(s: &[u8], answer: Result<eventlog::Record, eventlog::Refusal>) -> Answered {
-    let r = answer.map_err(|r| (r.number, r.at))?;
+    let r = answer.map_err(|r| (r.why.number(), r.at))?;
     Ok(Seen {
         start: r.start,
         length: r.length,
@@ -163,12 +223,31 @@ impl Handles {
     }
 }
 
-fn place(handle: eventlog::Handle) -> plain::Handle {
+type Served = Result<eventlog::Read, eventlog::ReadRefusal>;
+
+/// The proved read's answer and its handle. What a `Read` or a `ReadRefusal`
+/// leaves out is 0, which the binding's own tests see to.
+fn read_proved(answer: Served) -> (plain::Answer, eventlog::Handle) {
+    let (status, read, needed, handle) = match answer {
+        Ok(r) => (0, r.bytes, 0, r.handle),
+        Err(r) => (r.status.code(), 0, r.needed, r.handle),
+    };
     let place = match handle.place {
         eventlog::Place::Fresh => plain::Place::Fresh,
         eventlog::Place::Boundary(at) => plain::Place::Boundary(at),
     };
-    plain::Handle { place }
+    let seen = plain::Answer {
+        status,
+        read,
+        needed,
+        handle: plain::Handle { place },
+    };
+    (seen, handle)
+}
+
+/// The number of what may be refused, 0 for none.
+fn number_of(refused: Option<Refused>) -> u32 {
+    refused.map_or(0, Refused::number)
 }
 
 /// A read request.
@@ -194,6 +273,8 @@ pub struct Check {
     pub tally: Tally,
     fill: u8,
     out: [Vec<u8>; 2],
+    /// The hashes of the buffers judged so far.
+    judged: HashSet<u64>,
 }
 
 impl Check {
@@ -203,6 +284,7 @@ impl Check {
             tally: Tally::default(),
             fill: 0,
             out: Default::default(),
+            judged: HashSet::new(),
         }
     }
 
@@ -220,6 +302,18 @@ impl Check {
         self.tally.refusals[call as usize][number.min(17) as usize] += 1;
     }
 
+    /// Counts a judged buffer, if no equal one was judged before. Two with the
+    /// same hash count as one, so the count is never too high.
+    fn count_buffer(&mut self, s: &[u8]) {
+        let mut hasher = DefaultHasher::new();
+        hasher.write(s);
+        self.tally.buffers += u64::from(self.judged.insert(hasher.finish()));
+    }
+
+    fn count_case(&mut self, case: Case, met: bool) {
+        self.tally.cases[case as usize] += u64::from(met);
+    }
+
     /// step at a place. Answers the number of strings where it is good.
     pub fn step(&mut self, s: &[u8], at: usize) -> Option<u32> {
         let proved = seen_proved(s, eventlog::step(s, at));
@@ -228,11 +322,12 @@ impl Check {
             self.differ(&format!("step at {at}"), &[s], &proved, &plain);
         }
         let number = proved.as_ref().err().map_or(0, |r| r.0);
-        let refusals = (eventlog::refusal(s, at), plain::refusal(s, at));
+        let refusals = (number_of(eventlog::refusal(s, at)), plain::refusal(s, at));
         if refusals != (number, number) {
             self.differ(&format!("refusal at {at}"), &[s], &refusals.0, &refusals.1);
         }
-        self.tally.judged += 1;
+        self.count_buffer(s);
+        self.count_case(Case::FarRecord, number == 0 && at > FAR);
         self.count(Call::Step, number);
         proved.ok().map(|seen| u32::from(seen.fields.num_strings))
     }
@@ -244,7 +339,8 @@ impl Check {
         if proved != plain {
             self.differ(&format!("step_back at {end}"), &[s], &proved, &plain);
         }
-        self.tally.judged += 1;
+        self.count_buffer(s);
+        self.count_case(Case::FarRecordBack, proved.is_ok() && end > FAR);
         self.count(Call::StepBack, proved.err().map_or(0, |r| r.0));
     }
 
@@ -255,8 +351,11 @@ impl Check {
             0 => Ok(lies(s, plain::string(s, at, k), 0)),
             number => Err(number),
         };
-        let proved = eventlog::string(s, at, k).map(|string| lies(s, string, 0));
-        let told = eventlog::string_refusal(s, at, k);
+        let proved = match eventlog::string(s, at, k) {
+            Ok(string) => Ok(lies(s, string, 0)),
+            Err(why) => Err(why.number()),
+        };
+        let told = number_of(eventlog::string_refusal(s, at, k));
         if proved != plain || told != number {
             self.differ(
                 &format!("string {k} at {at}"),
@@ -273,6 +372,7 @@ impl Check {
                 &"a part although refused",
             );
         }
+        self.count_case(Case::FarString, number == 0 && at > FAR);
         self.count(Call::String, number);
     }
 
@@ -291,11 +391,13 @@ impl Check {
 
     /// Both walks.
     pub fn walks(&mut self, s: &[u8]) {
-        let proved = [eventlog::walk(s), eventlog::walk_back(s)].map(|w| (w.count, w.refusal));
+        let proved =
+            [eventlog::walk(s), eventlog::walk_back(s)].map(|w| (w.count, number_of(w.refusal)));
         let plain = [plain::walk(s), plain::walk_back(s)].map(|w| (w.count, w.refusal));
         if proved != plain {
             self.differ("walk, walk_back", &[s], &proved, &plain);
         }
+        self.count_buffer(s);
         self.count(Call::Walk, plain[0].1);
         self.count(Call::WalkBack, plain[1].1);
     }
@@ -319,7 +421,7 @@ impl Check {
     }
 
     /// The plain library's parts by place, against the proved record's.
-    fn parts(&mut self, s: &[u8], at: usize) {
+    pub fn parts(&mut self, s: &[u8], at: usize) {
         let plain = [
             plain::source_name(s, at),
             plain::computer_name(s, at),
@@ -367,12 +469,15 @@ impl Check {
     /// The listing into an output of a length.
     pub fn listing(&mut self, s: &[u8], out_len: usize) {
         let mut out = self.outputs(out_len);
-        let proved = eventlog::listing(s, &mut out[0]);
+        let proved = eventlog::listing(s, &mut out[0]).map_err(Refused::number);
         let plain = if out_len < s.len() + 64 {
             Err(15)
         } else {
             let text = listing_text(s);
             out[1][..text.len()].copy_from_slice(text.as_bytes());
+            let (long, records) = (s.len() > FAR, text.starts_with("records"));
+            self.count_case(Case::LongListing, long && records);
+            self.count_case(Case::LongListingRefused, long && !records);
             Ok(text.len())
         };
         let call = format!("listing into {out_len}");
@@ -386,7 +491,7 @@ impl Check {
     /// Writing an event into an output of a length.
     pub fn write(&mut self, event: &Made, out_len: usize) {
         let mut out = self.outputs(out_len);
-        let proved = eventlog::write(&event.proved(), &mut out[0]);
+        let proved = eventlog::write(&event.proved(), &mut out[0]).map_err(Refused::number);
         let plain = plain::write(&event.plain(), &mut out[1]);
         let call = format!("write into {out_len} of {:?}", event.fields);
         let inputs = parts_of(event);
@@ -410,7 +515,7 @@ impl Check {
     pub fn append(&mut self, log: &mut Vec<u8>, used: usize, event: &Made) -> Option<usize> {
         let mut other = log.clone();
         let old = log.clone();
-        let proved = eventlog::append(log, used, &event.proved());
+        let proved = eventlog::append(log, used, &event.proved()).map_err(Refused::number);
         let plain = plain::append(&mut other, used, &event.plain());
         let call = format!("append behind {used} of {:?}", event.fields);
         let parts = parts_of(event);
@@ -426,11 +531,23 @@ impl Check {
         if !kept(0..written.start) || !kept(written.end..old.len()) {
             self.differ(&call, &inputs, &"both change other bytes", &hex(log));
         }
-        if plain.is_ok() && used > 0 && log.get(used + 8..used + 12) == Some(&[0; 4]) {
-            self.tally.wrapped += 1;
-        }
-        self.count(Call::Append, plain.err().unwrap_or(0));
+        self.count_append(log, used, event, plain);
         plain.ok()
+    }
+
+    fn count_append(&mut self, log: &[u8], used: usize, event: &Made, answer: Result<usize, u32>) {
+        self.count(Call::Append, answer.err().unwrap_or(0));
+        let good = answer.is_ok();
+        let wrapped = good && used > 0 && log.get(used + 8..used + 12) == Some(&[0; 4]);
+        self.count_case(Case::WrappedNumber, wrapped);
+        self.count_case(Case::FarAppend, good && used > FAR);
+        let (room, length) = (log.len().saturating_sub(used), event.length());
+        if length >= LARGE {
+            self.count_case(Case::LargeAppend, good && room > length);
+            self.count_case(Case::LargeAppendExact, good && room == length);
+            let short = answer == Err(15) && room + 1 == length;
+            self.count_case(Case::LargeAppendRefused, short);
+        }
     }
 
     /// A read; answers the next handles.
@@ -442,14 +559,9 @@ impl Check {
             out,
         } = request;
         let mut out = self.outputs(out);
-        let proved = handles.proved.read(log, flags, number, size, &mut out[0]);
+        let answer = handles.proved.read(log, flags, number, size, &mut out[0]);
         let plain = handles.plain.read(log, flags, number, size, &mut out[1]);
-        let seen = plain::Answer {
-            status: proved.status,
-            read: proved.read,
-            needed: proved.needed,
-            handle: place(proved.handle),
-        };
+        let (seen, proved) = read_proved(answer);
         let call = || format!("read with {handles:?}, {request:?}");
         if seen != plain {
             self.differ(&call(), &[log], &seen, &plain);
@@ -467,7 +579,7 @@ impl Check {
             None => self.differ(&call(), &[log], &seen, &"no such status"),
         }
         Handles {
-            proved: proved.handle,
+            proved,
             plain: plain.handle,
         }
     }

@@ -143,32 +143,40 @@ fn cuts(rng: &mut Random, check: &mut Check) {
 
 /// Several records, in order or broken, and records inside data.
 fn logs(rng: &mut Random, check: &mut Check) {
-    for _ in 0..20 {
-        let count = rng.below(9);
-        let size = some_size(rng);
+    for i in 0..20 {
+        let (count, size) = match i {
+            0 if rng.once_in(4) => (rng.range(2, 9), Size::Large),
+            _ => (rng.below(9), some_size(rng)),
+        };
         let broken = rng.once_in(2);
         let (log, places) = make::log(rng, count, size, broken);
-        check.buffer(&log);
-        let less = rng.below(100);
-        check.listing(&log, (log.len() + 64).saturating_sub(less));
-        for at in places {
-            check.at(&log, at);
-            for _ in 0..3 {
-                let near = (at + rng.below(9)).saturating_sub(4);
-                check.at(&log, near);
-            }
-        }
-        for _ in 0..10 {
-            let at = rng.below(log.len() + 2);
-            check.at(&log, at);
-        }
-        let (from, to) = (rng.below(log.len() + 1), rng.below(log.len() + 1));
-        check.buffer(&log[from.min(to)..from.max(to)]);
+        whole_log(rng, check, &log, &places);
     }
     let nested = make::nested(rng);
     for at in 0..=nested.len() {
         check.at(&nested, at);
     }
+}
+
+/// A log as a batch, at its places and others, and a piece of it.
+fn whole_log(rng: &mut Random, check: &mut Check, log: &[u8], places: &[usize]) {
+    check.buffer(log);
+    let less = rng.below(100);
+    check.listing(log, (log.len() + 64).saturating_sub(less));
+    for &at in places {
+        check.at(log, at);
+        check.parts(log, at);
+        for _ in 0..3 {
+            let near = (at + rng.below(9)).saturating_sub(4);
+            check.at(log, near);
+        }
+    }
+    for _ in 0..10 {
+        let at = rng.below(log.len() + 2);
+        check.at(log, at);
+    }
+    let (from, to) = (rng.below(log.len() + 1), rng.below(log.len() + 1));
+    check.buffer(&log[from.min(to)..from.max(to)]);
 }
 
 /// Plausible heads over bodies with many zero units, and mere bytes.
@@ -274,7 +282,7 @@ fn appends(rng: &mut Random, check: &mut Check) {
         let end = log.len();
         let room = rng.below(700);
         log.extend(rng.bytes(room));
-        let mut used = match rng.below(10) {
+        let used = match rng.below(10) {
             0 => 0,
             1 => rng.below(log.len() + 1),
             2 => rng.pick(&[log.len(), log.len() + 1, usize::MAX, usize::MAX - 63]),
@@ -282,24 +290,48 @@ fn appends(rng: &mut Random, check: &mut Check) {
             4 => (end + rng.below(9)).saturating_sub(4),
             _ => end,
         };
-        for i in 0..5 {
-            let size = if i == 4 { some_size(rng) } else { Size::Small };
-            let event = match rng.once_in(4) {
-                true => Made::bad(rng, size),
-                false => Made::good(rng, size),
-            };
-            if rng.once_in(8) {
-                // Exactly as much room as it takes, or one byte less.
-                let len = used.saturating_add(event.length()) - rng.below(2);
-                log.resize(len.min(log.len() + 2000), 0);
-            }
-            if let Some(now) = check.append(&mut log, used, &event) {
-                used = now;
-            }
+        some_appends(rng, check, log, used);
+    }
+    large_appends(rng, check);
+}
+
+/// A few appends, one after another.
+fn some_appends(rng: &mut Random, check: &mut Check, mut log: Vec<u8>, mut used: usize) {
+    for i in 0..5 {
+        let size = if i == 4 { some_size(rng) } else { Size::Small };
+        let event = match rng.once_in(4) {
+            true => Made::bad(rng, size),
+            false => Made::good(rng, size),
+        };
+        if rng.once_in(8) {
+            // Exactly as much room as it takes, or one byte less.
+            let len = used.saturating_add(event.length()) - rng.below(2);
+            log.resize(len.min(log.len() + 2000), 0);
         }
-        if used <= log.len() {
-            check.walks(&log[..used]);
-            check.step_back(&log, used);
+        if let Some(now) = check.append(&mut log, used, &event) {
+            used = now;
+        }
+    }
+    if used <= log.len() {
+        check.walks(&log[..used]);
+        check.step_back(&log, used);
+    }
+}
+
+/// Appends of a large record: room to spare, exactly enough, one byte less.
+fn large_appends(rng: &mut Random, check: &mut Check) {
+    let size = rng.pick(&[Size::Small, Size::Large]);
+    let count = rng.below(4);
+    let (log, _) = make::log(rng, count, size, false);
+    let used = log.len();
+    let event = Made::good(rng, Size::Large);
+    let length = event.length();
+    for room in [length + rng.range(1, 99), length, length - 1] {
+        let mut log = [&log[..], &rng.bytes(room)].concat();
+        if let Some(now) = check.append(&mut log, used, &event) {
+            check.walks(&log[..now]);
+            check.at(&log, used);
+            check.step_back(&log, now);
         }
     }
 }
@@ -323,66 +355,71 @@ fn reads(rng: &mut Random, check: &mut Check) {
         };
         for _ in 0..list {
             if rng.once_in(12) {
-                handles = match rng.below(4) {
-                    0 => Handles::fresh(),
-                    1 => Handles::boundary(rng.below(log.len() + 3)),
-                    2 => Handles::boundary(rng.pick(&places)),
-                    _ => Handles::boundary(rng.pick(&[
-                        log.len(),
-                        log.len() + 1,
-                        usize::MAX,
-                        1 << 32,
-                    ])),
-                };
+                handles = any_handles(rng, &log, &places);
             }
-            // Mostly on in the same way; sometimes a turn, a seek, wrong flags.
+            // Mostly on in the same way; sometimes a turn or a seek.
             match rng.below(10) {
                 0 => flags = rng.pick(&check::FLAGS),
                 1 => flags = (12 - (flags & 12)) | 1,
                 2 => flags = (flags & 12) | 1,
                 _ => {}
             }
-            let asked = match rng.below(16) {
-                0 => rng.below(33) as u32,
-                1 => flags | 1 << rng.below(32),
-                _ => flags,
-            };
-            let (from, to) = (rng.pick(&places), rng.pick(&places));
-            let span = from.abs_diff(to);
-            let wanted = match rng.below(12) {
-                0 => 0,
-                1 => span.saturating_sub(1),
-                2 => span + 1,
-                3 => rng.below(log.len() + 1),
-                4 => log.len(),
-                5 => rng.pick(&[63, 64, 65, 100, 65_532]),
-                6 if rng.once_in(8) => rng.pick(&[524_286, 524_287, 524_288, 600_000]),
-                7 if rng.once_in(4) => rng.pick(&[usize::MAX, 1 << 32, 1 << 31]),
-                8 => rng.range(64, 400),
-                _ => span,
-            };
-            let out = match rng.below(12) {
-                _ if wanted > 1_000_000 => rng.below(300),
-                0 => wanted.saturating_sub(1),
-                1 => rng.below(wanted + 1),
-                2 | 3 => wanted + rng.below(100),
-                _ => wanted,
-            };
-            let number = match rng.below(4) {
-                0 => rng.bits() as u32,
-                1 => rng.below(6) as u32,
-                _ => match from + 12 <= log.len() {
-                    true => make::get(&log, from + 8, 4),
-                    false => 0,
-                },
-            };
-            let request = Request {
-                flags: asked,
-                number,
-                size: wanted,
-                out,
-            };
+            let request = any_request(rng, &log, &places, flags);
             handles = check.read(handles, &log, request);
         }
+    }
+}
+
+fn any_handles(rng: &mut Random, log: &[u8], places: &[usize]) -> Handles {
+    match rng.below(4) {
+        0 => Handles::fresh(),
+        1 => Handles::boundary(rng.below(log.len() + 3)),
+        2 => Handles::boundary(rng.pick(places)),
+        _ => Handles::boundary(rng.pick(&[log.len(), log.len() + 1, usize::MAX, 1 << 32])),
+    }
+}
+
+/// A request, mostly with these flags, often for the bytes between two places.
+fn any_request(rng: &mut Random, log: &[u8], places: &[usize], flags: u32) -> Request {
+    let flags = match rng.below(16) {
+        0 => rng.below(33) as u32,
+        1 => flags | 1 << rng.below(32),
+        _ => flags,
+    };
+    let (from, to) = (rng.pick(places), rng.pick(places));
+    let size = any_size(rng, log, from.abs_diff(to));
+    let out = match rng.below(12) {
+        _ if size > 1_000_000 => rng.below(300),
+        0 => size.saturating_sub(1),
+        1 => rng.below(size + 1),
+        2 | 3 => size + rng.below(100),
+        _ => size,
+    };
+    let number = match rng.below(4) {
+        0 => rng.bits() as u32,
+        1 => rng.below(6) as u32,
+        _ if from + 12 <= log.len() => make::get(log, from + 8, 4),
+        _ => 0,
+    };
+    Request {
+        flags,
+        number,
+        size,
+        out,
+    }
+}
+
+fn any_size(rng: &mut Random, log: &[u8], span: usize) -> usize {
+    match rng.below(12) {
+        0 => 0,
+        1 => span.saturating_sub(1),
+        2 => span + 1,
+        3 => rng.below(log.len() + 1),
+        4 => log.len(),
+        5 => rng.pick(&[63, 64, 65, 100, 65_532]),
+        6 if rng.once_in(8) => rng.pick(&[524_286, 524_287, 524_288, 600_000]),
+        7 if rng.once_in(4) => rng.pick(&[usize::MAX, 1 << 32, 1 << 31]),
+        8 => rng.range(64, 400),
+        _ => span,
     }
 }

@@ -82,6 +82,30 @@ fn sid(rng: &mut Random) -> Vec<u8> {
     sid
 }
 
+fn spoilt_sid(rng: &mut Random) -> Vec<u8> {
+    let mut spoilt = sid(rng);
+    match rng.below(4) {
+        0 => {
+            let len = rng.range(0, 80);
+            spoilt = rng.bytes(len);
+        }
+        1 => {
+            let at = rng.below(2);
+            spoilt[at] = rng.pick(&[0, 1, 2, 14, 15, 16, 255]);
+        }
+        2 => {
+            let len = spoilt.len() + rng.range(0, 8);
+            spoilt.resize(len - rng.below(len.min(9)), 0);
+        }
+        _ => {
+            // Sixteen sub-authorities: one too many.
+            spoilt = rng.bytes(72);
+            spoilt[..2].copy_from_slice(&[1, 16]);
+        }
+    }
+    spoilt
+}
+
 fn number(rng: &mut Random) -> u32 {
     match rng.below(4) {
         0 => rng.pick(&[0, 1, 2, 0x7FFF_FFFF, 0x8000_0000, 0xFFFF_FFFE, 0xFFFF_FFFF]),
@@ -219,25 +243,7 @@ impl Made {
             5 => spoil_text(rng, &mut self.computer),
             6 => spoil_text(rng, &mut self.strings),
             7 => self.strings.extend([0, 0]),
-            8 => {
-                let len = rng.range(0, 80);
-                self.sid = rng.bytes(len);
-            }
-            9 => {
-                self.sid = sid(rng);
-                let at = rng.below(2);
-                self.sid[at] = rng.pick(&[0, 1, 2, 14, 15, 16, 255]);
-            }
-            10 => {
-                self.sid = sid(rng);
-                let len = self.sid.len() + rng.range(0, 8);
-                self.sid.resize(len - rng.below(len.min(9)), 0);
-            }
-            11 => {
-                // Sixteen sub-authorities: one too many.
-                self.sid = rng.bytes(72);
-                self.sid[..2].copy_from_slice(&[1, 16]);
-            }
+            8..=11 => self.sid = spoilt_sid(rng),
             12 => {
                 let len = rng.pick(&[MAX_DATA, MAX_DATA + 1, MAX_DATA + 2, 65_536, 70_000]);
                 self.data.resize(len, 7);
@@ -299,7 +305,6 @@ impl Made {
             Some(rng) => rng.bytes(len),
             None => vec![0; len],
         };
-        let f = self.fields;
         let sid_at = aligned(56 + self.source.len() + 2 + self.computer.len() + 2);
         let strings_at = sid_at + self.sid.len();
         let data_at = strings_at + self.strings.len();
@@ -308,29 +313,14 @@ impl Made {
             true => (at as u32).to_le_bytes().to_vec(),
             false => ignored(4),
         };
-        let string_offset = offset(f.num_strings != 0, strings_at);
+        let string_offset = offset(self.fields.num_strings != 0, strings_at);
         let sid_offset = offset(!self.sid.is_empty(), sid_at);
         let data_offset = offset(!self.data.is_empty(), data_at);
 
         let mut out = Vec::with_capacity(self.length());
         out.extend(length);
         out.extend(0x654C_664Cu32.to_le_bytes());
-        for field in [
-            f.record_number,
-            f.time_generated,
-            f.time_written,
-            f.event_id,
-        ] {
-            out.extend(field.to_le_bytes());
-        }
-        for field in [
-            f.event_type,
-            f.num_strings,
-            f.event_category,
-            f.reserved_flags,
-        ] {
-            out.extend(field.to_le_bytes());
-        }
+        self.put_fields(&mut out);
         out.extend(ignored(4));
         out.extend(string_offset);
         out.extend((self.sid.len() as u32).to_le_bytes());
@@ -348,6 +338,27 @@ impl Made {
         out.extend(ignored(self.length() - 4 - out.len()));
         out.extend(length);
         out
+    }
+
+    /// The fields from RecordNumber to ReservedFlags.
+    fn put_fields(&self, out: &mut Vec<u8>) {
+        let f = self.fields;
+        for field in [
+            f.record_number,
+            f.time_generated,
+            f.time_written,
+            f.event_id,
+        ] {
+            out.extend(field.to_le_bytes());
+        }
+        for field in [
+            f.event_type,
+            f.num_strings,
+            f.event_category,
+            f.reserved_flags,
+        ] {
+            out.extend(field.to_le_bytes());
+        }
     }
 }
 
@@ -396,75 +407,30 @@ pub fn nested(rng: &mut Random) -> Vec<u8> {
     outer.encode(Some(rng))
 }
 
+/// Small numbers, and those next to a limit.
+const NUMBERS: [u32; 56] = [
+    0, 1, 2, 3, 4, 5, 7, 8, 9, 11, 12, 15, 16, 17, 20, 24, 31, 32, 33, 56, 57, 58, 60, 61, 62, 63,
+    64, 65, 66, 68, 69, 72, 76, 127, 128, 255, 256, 257, 0x4000, 0x7FFF, 0x8000, 0x8001, 0xC000,
+    0xFFFE, 0xFFFF, 61_436, 61_439, 61_440, 61_441, 61_444, 65_528, 65_531, 65_532, 65_533, 65_536,
+    65_540,
+];
+
+/// Signatures, and numbers with which a 32-bit sum wraps.
+const WIDE_NUMBERS: [u32; 9] = [
+    0x654C_664C,
+    0x664C_654C,
+    0x7FFF_FFFF,
+    0x8000_0000,
+    0xFFFF_0000,
+    0xFFFF_FFF0,
+    0xFFFF_FFFC,
+    0xFFFF_FFFE,
+    0xFFFF_FFFF,
+];
+
 /// Values for a field with value `old` in a record of this Length.
 pub fn boundary_values(old: u32, length: u32) -> Vec<u32> {
-    let mut values: Vec<u32> = vec![
-        0,
-        1,
-        2,
-        3,
-        4,
-        5,
-        7,
-        8,
-        9,
-        11,
-        12,
-        15,
-        16,
-        17,
-        20,
-        24,
-        31,
-        32,
-        33,
-        56,
-        57,
-        58,
-        60,
-        61,
-        62,
-        63,
-        64,
-        65,
-        66,
-        68,
-        69,
-        72,
-        76,
-        127,
-        128,
-        255,
-        256,
-        257,
-        0x4000,
-        0x7FFF,
-        0x8000,
-        0x8001,
-        0xC000,
-        0xFFFE,
-        0xFFFF,
-        61_436,
-        61_439,
-        61_440,
-        61_441,
-        61_444,
-        65_528,
-        65_531,
-        65_532,
-        65_533,
-        65_536,
-        65_540,
-        0x654C_664C,
-        0x664C_654C,
-        0x7FFF_FFFF,
-        0x8000_0000,
-        0xFFFF_0000,
-        0xFFFF_FFF0,
-        0xFFFF_FFFC,
-        0xFFFF_FFFE,
-        0xFFFF_FFFF,
-    ];
+    let mut values = [&NUMBERS[..], &WIDE_NUMBERS].concat();
     for near in [old, length, length.wrapping_sub(4), old.wrapping_neg()] {
         for by in [0, 1, 2, 3, 4, 8, 0x100, 0x1_0000, 0x8000_0000] {
             values.push(near.wrapping_add(by));
@@ -584,41 +550,42 @@ pub fn noise(rng: &mut Random) -> Vec<u8> {
     put_some(26, 2, 0);
     put_some(40, 4, 0);
     put_some(48, 4, 0);
-    // Then the parts where they belong, as far as the names end.
+    place_parts(rng, &mut out);
+    out
+}
+
+/// Puts the parts where they belong, as far as the names and strings end.
+fn place_parts(rng: &mut Random, out: &mut [u8]) {
+    let length = out.len();
     let zero = |from: usize, out: &[u8]| {
         (from..length - 5)
             .step_by(2)
             .find(|at| out[*at..*at + 2] == [0, 0])
             .map(|at| at + 2)
     };
-    let Some(names_end) = zero(56, &out).and_then(|at| zero(at, &out)) else {
-        return out;
+    let Some(names_end) = zero(56, out).and_then(|at| zero(at, out)) else {
+        return;
     };
     let mut at = aligned(names_end);
     if rng.once_in(2) {
         let n = rng.below(4);
-        put(&mut out, 40, 4, 8 + 4 * n as u32);
-        put(&mut out, 44, 4, at as u32);
-        put(&mut out, at, 2, 1 + 256 * n as u32);
+        put(out, 40, 4, 8 + 4 * n as u32);
+        put(out, 44, 4, at as u32);
+        put(out, at, 2, 1 + 256 * n as u32);
         at += 8 + 4 * n;
-        put(&mut out, length - 4, 4, length as u32);
+        put(out, length - 4, 4, length as u32);
     }
     let count = rng.below(6);
-    put(&mut out, 26, 2, count as u32);
-    put(&mut out, 36, 4, at as u32);
+    put(out, 26, 2, count as u32);
+    put(out, 36, 4, at as u32);
     for _ in 0..count {
-        match zero(at, &out) {
+        match zero(at, out) {
             Some(after) => at = after,
-            None => return out,
+            None => return,
         }
     }
     let left = (length - 4).saturating_sub(at);
-    put(
-        &mut out,
-        48,
-        4,
-        (left + 1).saturating_sub(rng.below(6)) as u32,
-    );
-    put(&mut out, 52, 4, at as u32);
-    out
+    let data = (left + 1).saturating_sub(rng.below(6));
+    put(out, 48, 4, data as u32);
+    put(out, 52, 4, at as u32);
 }

@@ -1,5 +1,5 @@
-//! Both libraries on every family of inputs. `COMPARE_ROUNDS` sets the rounds
-//! of each family, for more than the million judged buffers of the default.
+//! Both libraries on every family of inputs. `COMPARE_ROUNDS` asks for more
+//! rounds of each family than the default, which judges a million buffers.
 
 use std::env;
 use std::io::{stdout, Write};
@@ -8,11 +8,13 @@ use std::sync::Mutex;
 use std::thread;
 use std::time::Instant;
 
-use compare::check::{Call, Tally, FLAGS, STATUSES};
+use compare::check::{Call, Tally, CASES, FLAGS, STATUSES};
 use compare::{round, FAMILIES};
 
-/// Rounds of each family.
+/// The fewest rounds of each family.
 const ROUNDS: u64 = 250;
+/// The fewest buffers that they judge.
+const BUFFERS: u64 = 1_000_000;
 const THREADS: usize = 2;
 
 /// Where a round panics, says which one it was, as a panic of a library itself
@@ -35,65 +37,72 @@ impl Drop for Watch<'_> {
 
 #[test]
 fn both_answer_the_same() {
-    let rounds = match env::var("COMPARE_ROUNDS") {
-        Ok(text) => text.parse().expect("COMPARE_ROUNDS is a number"),
-        Err(_) => ROUNDS,
-    };
+    let rounds = rounds();
     let start = Instant::now();
-    let work = AtomicU64::new(0);
-    let stop = AtomicBool::new(false);
-    let tallies = Mutex::new(vec![(Tally::default(), 0.0); FAMILIES.len()]);
-    thread::scope(|scope| {
-        for _ in 0..THREADS {
-            scope.spawn(|| {
-                while !stop.load(Relaxed) {
-                    let next = work.fetch_add(1, Relaxed);
-                    let (family, number) = ((next / rounds.max(1)) as usize, next % rounds.max(1));
-                    if family >= FAMILIES.len() || rounds == 0 {
-                        break;
-                    }
-                    let stop = &stop;
-                    let _watch = Watch {
-                        stop,
-                        family,
-                        number,
-                    };
-                    let begun = Instant::now();
-                    let tally = round(family, number);
-                    let mut tallies = tallies.lock().unwrap();
-                    tallies[family].0.add(&tally);
-                    tallies[family].1 += begun.elapsed().as_secs_f64();
-                }
-            });
-        }
-    });
-
+    let tallies = run(rounds);
     let mut total = Tally::default();
     // Not by print!, which is shown only for a test that fails.
     let mut out = stdout().lock();
     writeln!(out).unwrap();
-    for ((tally, seconds), (name, _)) in tallies.into_inner().unwrap().iter().zip(FAMILIES) {
+    for ((tally, seconds), (name, _)) in tallies.iter().zip(FAMILIES) {
         total.add(tally);
-        let Tally { judged, calls, .. } = tally;
-        writeln!(
-            out,
-            "{name:8} judged {judged:9}, calls {calls:9}, {seconds:6.1} s"
-        )
-        .unwrap();
+        writeln!(out, "{name:8} {}, {seconds:.1} s", counts(tally)).unwrap();
     }
-    let Tally { judged, calls, .. } = total;
-    let good = total.met(Call::Step, 0) + total.met(Call::StepBack, 0);
     let seconds = start.elapsed().as_secs_f64();
-    writeln!(
-        out,
-        "compared {rounds} rounds: {judged} judged buffers ({good} good), {calls} calls, {seconds:.1} s"
-    )
-    .unwrap();
+    let counts = counts(&total);
+    writeln!(out, "{rounds} rounds: {counts}, {seconds:.1} s").unwrap();
     drop(out);
-    if rounds >= ROUNDS {
-        assert!(judged >= 1_000_000, "only {judged} judged buffers");
-        reached(&total);
-    }
+    let buffers = total.buffers;
+    assert!(buffers >= BUFFERS, "only {buffers} buffers");
+    reached(&total);
+}
+
+/// Never fewer than the default, so that a variable left behind does not make
+/// the test pass without comparing.
+fn rounds() -> u64 {
+    let asked = env::var("COMPARE_ROUNDS").map_or(ROUNDS, |text| {
+        text.parse().expect("COMPARE_ROUNDS is a number")
+    });
+    asked.max(ROUNDS)
+}
+
+/// All rounds of all families; what each family compared, and its seconds.
+fn run(rounds: u64) -> Vec<(Tally, f64)> {
+    let work = AtomicU64::new(0);
+    let stop = AtomicBool::new(false);
+    let tallies = Mutex::new(vec![(Tally::default(), 0.0); FAMILIES.len()]);
+    let worker = || {
+        while !stop.load(Relaxed) {
+            let next = work.fetch_add(1, Relaxed);
+            let (family, number) = ((next / rounds) as usize, next % rounds);
+            if family >= FAMILIES.len() {
+                break;
+            }
+            let stop = &stop;
+            let _watch = Watch {
+                stop,
+                family,
+                number,
+            };
+            let begun = Instant::now();
+            let tally = round(family, number);
+            let mut tallies = tallies.lock().unwrap();
+            tallies[family].0.add(&tally);
+            tallies[family].1 += begun.elapsed().as_secs_f64();
+        }
+    };
+    thread::scope(|scope| {
+        for _ in 0..THREADS {
+            scope.spawn(worker);
+        }
+    });
+    tallies.into_inner().unwrap()
+}
+
+fn counts(tally: &Tally) -> String {
+    let Tally { buffers, calls, .. } = tally;
+    let (judgements, good) = tally.judgements();
+    format!("{buffers:7} buffers, {judgements:7} judgements ({good} good), {calls} calls")
 }
 
 /// Every answer of every call occurred.
@@ -128,5 +137,7 @@ fn reached(total: &Tally) {
             assert_eq!(*count > 0, possible, "flags {flags:?} status {status:#x}");
         }
     }
-    assert!(total.wrapped > 0);
+    for case in CASES {
+        assert!(total.cases[case as usize] > 0, "{case:?}");
+    }
 }

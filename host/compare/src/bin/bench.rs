@@ -10,7 +10,6 @@ use compare::random::Random;
 const BATCH: usize = 16 << 20;
 const READ: usize = 64 << 10;
 const ROUNDS: usize = 40;
-const END_OF_FILE: u32 = 0xC000_0011;
 /// Names alone are short work: many walks of one record.
 const NAME_WALKS: usize = 1000;
 
@@ -57,13 +56,17 @@ fn serve_proved(log: &[u8], flags: u32, out: &mut [u8]) -> usize {
     let mut handle = eventlog::Handle::fresh();
     let mut sum = 0;
     loop {
-        let answer = handle.read(log, flags, 0, out.len(), out);
-        if answer.status != 0 {
-            assert_eq!((answer.status, sum), (END_OF_FILE, log.len()));
-            return sum;
+        match handle.read(log, flags, 0, out.len(), out) {
+            Ok(read) => {
+                sum += read.bytes;
+                handle = read.handle;
+            }
+            Err(refusal) => {
+                let end = eventlog::Status::EndOfFile;
+                assert_eq!((refusal.status, sum), (end, log.len()));
+                return sum;
+            }
         }
-        sum += answer.read;
-        handle = answer.handle;
     }
 }
 
@@ -73,7 +76,8 @@ fn serve_plain(log: &[u8], flags: u32, out: &mut [u8]) -> usize {
     loop {
         let answer = handle.read(log, flags, 0, out.len(), out);
         if answer.status != 0 {
-            assert_eq!((answer.status, sum), (END_OF_FILE, log.len()));
+            let end = plain::status::END_OF_FILE;
+            assert_eq!((answer.status, sum), (end, log.len()));
             return sum;
         }
         sum += answer.read;
@@ -120,45 +124,37 @@ fn row(
     );
 }
 
-fn main() {
-    let mut rng = Random::new(1);
-    println!(
-        "Minima of {ROUNDS} rounds, both versions in turn. A batch has 16 MiB; reads ask 64 KiB."
+/// Walks and reads of a batch of such records.
+fn rows(rng: &mut Random, name: &str, length: usize) {
+    let log = batch(rng, length);
+    let log = &log[..];
+    let records = plain::walk(log).count;
+    row(
+        &format!("walk, records of {name}"),
+        records,
+        &mut || eventlog::walk(black_box(log)).count,
+        &mut || plain::walk(black_box(log)).count,
     );
-    println!("The output is not cleared between reads.");
-    println!("ns are for each record, the ratio is proved / plain.");
-    println!(
-        "{:36} {:>9} {:>9} {:>8} {:>8} {:>6}",
-        "", "proved ms", "plain ms", "ns", "ns", "ratio"
+    row(
+        &format!("walk back, records of {name}"),
+        records,
+        &mut || eventlog::walk_back(black_box(log)).count,
+        &mut || plain::walk_back(black_box(log)).count,
     );
-    let mut out = vec![0; READ];
-    for (name, length) in [("100 bytes", 100), ("1 KiB", 1024), ("60 KiB", 60 << 10)] {
-        let log = batch(&mut rng, length);
-        let log = &log[..];
-        let records = plain::walk(log).count;
+    let (mut out, mut other) = (vec![0; READ], vec![0; READ]);
+    for (direction, flags) in [("forwards", 5), ("backwards", 9)] {
         row(
-            &format!("walk, records of {name}"),
+            &format!("read {direction}, records of {name}"),
             records,
-            &mut || eventlog::walk(black_box(log)).count,
-            &mut || plain::walk(black_box(log)).count,
+            &mut || serve_proved(black_box(log), flags, &mut out),
+            &mut || serve_plain(black_box(log), flags, &mut other),
         );
-        row(
-            &format!("walk back, records of {name}"),
-            records,
-            &mut || eventlog::walk_back(black_box(log)).count,
-            &mut || plain::walk_back(black_box(log)).count,
-        );
-        for (direction, flags) in [("forwards", 5), ("backwards", 9)] {
-            let mut other = out.clone();
-            row(
-                &format!("read {direction}, records of {name}"),
-                records,
-                &mut || serve_proved(black_box(log), flags, &mut out),
-                &mut || serve_plain(black_box(log), flags, &mut other),
-            );
-        }
     }
-    let record = long_name(&mut rng, 30_000);
+}
+
+/// Many walks of one record with a long name.
+fn name_row(rng: &mut Random) {
+    let record = long_name(rng, 30_000);
     let record = &record[..];
     row(
         "name of 30,000 units, 1000 times",
@@ -174,4 +170,21 @@ fn main() {
                 .sum()
         },
     );
+}
+
+fn main() {
+    let mut rng = Random::new(1);
+    println!(
+        "Minima of {ROUNDS} rounds, both versions in turn. A batch has 16 MiB; reads ask 64 KiB."
+    );
+    println!("The output is not cleared between reads.");
+    println!("ns are for each record, the ratio is proved / plain.");
+    println!(
+        "{:36} {:>9} {:>9} {:>8} {:>8} {:>6}",
+        "", "proved ms", "plain ms", "ns", "ns", "ratio"
+    );
+    for (name, length) in [("100 bytes", 100), ("1 KiB", 1024), ("60 KiB", 60 << 10)] {
+        rows(&mut rng, name, length);
+    }
+    name_row(&mut rng);
 }

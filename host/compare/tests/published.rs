@@ -1,0 +1,50 @@
+//! The one record that the source documents print: the example of MS-EVEN 4.2,
+//! "The newly written event record looks like the following".
+
+fn utf16(text: &str) -> Vec<u8> {
+    text.encode_utf16().flat_map(u16::to_le_bytes).collect()
+}
+
+/// The SID is printed in part: eight bytes, "including 4 bytes of padding".
+fn record(sid: [u8; 12]) -> Vec<u8> {
+    let fields: [u32; 6] = [0xA8, 0x654C_664C, 0x100, 0x4CB3_BB01, 0x4CB3_BB19, 0x17];
+    let numbers: [u16; 4] = [4, 2, 1, 0];
+    let places: [u32; 6] = [0, 0x76, 0xC, 0x6A, 0x10, 0x90];
+    let data = [
+        0x76, 0x0B, 0x54, 0x86, 0x42, 0x3E, 0xBE, 0x9E, 0xFF, 0x64, 0xB0, 0x96, 0x01, 0x53, 0x2B,
+        0x77,
+    ];
+    let bytes = [
+        fields.iter().flat_map(|n| n.to_le_bytes()).collect(),
+        numbers.iter().flat_map(|n| n.to_le_bytes()).collect(),
+        places.iter().flat_map(|n| n.to_le_bytes()).collect(),
+        utf16("GenerateEvent\0COMPUTER\0"),
+        vec![0; 4],
+        sid.to_vec(),
+        utf16("First\0Second\0"),
+        data.to_vec(),
+        vec![0; 4],
+        0xA8u32.to_le_bytes().to_vec(),
+    ];
+    let bytes = bytes.concat();
+    assert_eq!(bytes.len(), 0xA8);
+    bytes
+}
+
+/// UserSidOffset is 106, and the paper's order puts the SID at 104.
+#[test]
+fn refused_with_10() {
+    let printed = [0, 0, 0, 0, 0, 0, 1, 0, 0, 0x46, 0, 0];
+    let well_formed = [1, 1, 0, 0, 0, 0, 0, 5, 18, 0, 0, 0];
+    for sid in [printed, well_formed] {
+        let record = record(sid);
+        let proved = eventlog::step(&record, 0).map_err(|r| r.why.number());
+        let back = eventlog::step_back(&record, record.len()).map_err(|r| r.why.number());
+        assert_eq!((proved, back), (Err(10), Err(10)));
+        let plain = (
+            plain::judge(&record, 0),
+            plain::judge_back(&record, record.len()),
+        );
+        assert_eq!(plain, (Err(10), Err(10)));
+    }
+}
