@@ -1,7 +1,7 @@
 -- The step's answer, as it crosses. Assumes nothing.
 use mathlib.Core.Path.{ap, _∙_}
 use borrow.Author.Needs.{needs}
-use Rattle.eventlog.specs.Border.{stepped}
+use Rattle.eventlog.specs.Interface.{stepped}
 use Rattle.eventlog.proofs.eventlog_step_back.Statement.{statement}
 use Rattle.eventlog.proofs.eventlog_step_back.Tie as tie
 

@@ -2,7 +2,7 @@
 use mathlib.Core.Path.{sym, ap, _∙_}
 use borrow.Author.Needs.{needs}
 use Rattle.format.specs.declared.Record.{Record}
-use Rattle.eventlog.specs.Border.{stepped}
+use Rattle.eventlog.specs.Interface.{stepped}
 use Rattle.eventlog.proofs.stepped_of.Statement.{statement}
 use Rattle.eventlog.proofs.stepped_of.Tie as tie
 

@@ -1,4 +1,4 @@
--- What crosses to C: structs in the place of enums.
+-- The structs that C is given and gives, in the place of enums.
 -- Assumes nothing.
 use mathlib.Core.Bool.{cond}
 use mathlib.Core.List.{List}
@@ -20,22 +20,22 @@ abbrev pub stepped : Step → ℕ → Stepped
 stepped (Found a) p = record { refusal = 0; at = p; found = a }
 stepped (Refused k q) p = record { refusal = k; at = p; found = emptyRecord }
 
--- a handle that came across: every kind but 0 is a boundary
+-- a handle that was given: every kind but 0 is a boundary
 abbrev pub placed : ℕ → ℕ → Place
 placed kind b = cond (eqb kind 0) Fresh (Boundary b)
 
 abbrev pub handleOf : ReadHandle → Handle
 handleOf h = record { place = placed (h .kind) (h .boundary) }
 
--- a handle that goes across
-abbrev pub crossed : Place → ReadHandle
-crossed Fresh = record { kind = 0; boundary = 0 }
-crossed (Boundary b) = record { kind = 1; boundary = b }
+-- a handle that is answered
+abbrev pub readHandle : Place → ReadHandle
+readHandle Fresh = record { kind = 0; boundary = 0 }
+readHandle (Boundary b) = record { kind = 1; boundary = b }
 
 abbrev pub freshRead : ReadHandle
-freshRead = crossed Fresh
+freshRead = readHandle Fresh
 
--- what a read call answers and leaves, as it crosses
+-- what a read call answers and leaves
 pub record ReadServed : Type 0 where
   pub answer : ReadAnswer
   pub output : List ℕ
@@ -44,15 +44,15 @@ abbrev pub readOutcome : ReadAnswer → List ℕ → ReadServed
 readOutcome r out = record { answer = r; output = out }
 
 -- "A refusal returns [..] the old handle": the caller's own, whatever its kind
-abbrev pub across : ReadHandle → Served → ReadServed
-across h x =
+abbrev pub answered : ReadHandle → Served → ReadServed
+answered h x =
     record {
       answer =
           record {
             status = x .answer .status;
             read = x .answer .read;
             needed = x .answer .needed;
-            handle = cond (eqb (x .answer .status) 0) (crossed (x .answer .handle .place)) h;
+            handle = cond (eqb (x .answer .status) 0) (readHandle (x .answer .handle .place)) h;
           };
       output = x .output;
     }

@@ -1,0 +1,11 @@
+-- Both kinds of place. Assumes nothing.
+use mathlib.Core.Path.{sym, ap}
+use borrow.Author.Needs.{needs}
+use Rattle.eventlog.specs.Interface.{readHandle}
+use Rattle.eventlog.proofs.read_handle.Statement.{statement}
+use Rattle.eventlog.proofs.read_handle.Tie as tie
+
+pub read-handle-spec : {M : Type 1} → statement M
+read-handle-spec =
+    tie.close
+    (tie.spec (λ c. search needs) (λ c. search needs) (λ c. ap readHandle (sym (c .enum-told .given .1))) (λ c. ap readHandle (sym (c .before .place .given .1))))
