@@ -4,6 +4,7 @@
 set -euo pipefail
 cd "$(dirname "$0")"
 if ! command -v evtexport >/dev/null || ! command -v ndrdump >/dev/null; then
+    apt-get update --quiet
     apt-get install --yes libevt-utils samba-testsuite
 fi
 (cd .. && rt staticlib eventlog >/dev/null)

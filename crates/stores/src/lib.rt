@@ -23,7 +23,7 @@ fn copy(out: &mut [u8], at: usize, t: &[u8]) -> usize
 const BLOCK: usize = 32;
 
 // The same, as whole blocks and then the last block again, up to the end: no rest goes byte by byte, so
-// that a read of short records takes a third less time.
+// that a read of short records takes a quarter less time.
 fn copy_blocks(out: &mut [u8], at: usize, t: &[u8]) -> usize
     requires { ⌜ at + length (now t) ≤ length (now out) ⌝ }
     ensures { λ r. ⌜ Stored (now (out .entry)) at (now (t .entry)) r (now (out .exit)) ⌝ }
