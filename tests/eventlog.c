@@ -1,4 +1,4 @@
-/* The C border: every call with 01's samples, what it refuses, and which bytes it leaves alone. */
+/* The C border: every call with the samples S and T, what it refuses, and which bytes it leaves alone. */
 #include "eventlog.h"
 
 #include <stdio.h>
@@ -48,7 +48,9 @@ static void check(int line, int holds, const char *fact)
 
 /* ---- the samples ---- */
 
-/* 01's records S and T, joined. In T the numbers are not 0, and no two are the same. */
+/* The build paper's records S and T, joined. S is as it stands there. T has the paper's texts and layout, but other
+ * numbers: those that the paper leaves at 0 are not 0 here, no two fields are the same, and neither the SID nor the
+ * data is as the paper has it, so that an exchange shows. */
 enum { S = 0, T = 64, END = 168, S_LENGTH = 64, T_LENGTH = 104, S_NUMBER = 7, T_NUMBER = 0x14131211 };
 
 static const uint8_t batch[END] = {

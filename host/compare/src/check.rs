@@ -3,12 +3,16 @@
 use std::collections::HashSet;
 use std::fmt::{Debug, Write};
 use std::hash::{DefaultHasher, Hasher};
+use std::io::{ErrorKind, Write as _};
+use std::ops::RangeInclusive;
+use std::path::Path;
+use std::process::{Command, Output, Stdio};
 
 use eventlog::Refused;
 
 use crate::make::Made;
 
-/// The calls that refuse.
+/// The calls that refuse, and the listing program.
 #[derive(Clone, Copy, Debug, PartialEq, Eq)]
 pub enum Call {
     Step,
@@ -19,16 +23,18 @@ pub enum Call {
     Write,
     Append,
     Listing,
+    Program,
 }
 
-pub const CALLS: usize = Call::Listing as usize + 1;
+pub const CALLS: usize = Call::Program as usize + 1;
 
 /// The calls that judge a buffer, at one place or as a whole.
 const JUDGES: [Call; 4] = [Call::Step, Call::StepBack, Call::Walk, Call::WalkBack];
 
 /// What has to occur beside every refusal and status. Far is a place past
-/// 65,536, long a batch of more bytes than that, large a record of at least
-/// half of them.
+/// 65,536, long a batch of more bytes than that, full one of 65,000 to 65,536,
+/// large a record of at least half of them, a long read one of more than 500,000
+/// bytes.
 #[derive(Clone, Copy, Debug, PartialEq, Eq)]
 pub enum Case {
     /// A record read at a far place.
@@ -43,6 +49,24 @@ pub enum Case {
     LongListing,
     /// A long batch listed as refused.
     LongListingRefused,
+    /// A full batch listed.
+    FullListing,
+    /// A full batch listed as refused.
+    FullListingRefused,
+    /// A full batch and an output that is one byte short.
+    FullListingShort,
+    /// The program lists a full batch.
+    FullProgram,
+    /// The program refuses a record of a full batch.
+    FullProgramRefused,
+    /// The program gets no byte.
+    EmptyProgram,
+    /// A long read forwards.
+    LongRead,
+    /// A long read backwards.
+    LongReadBack,
+    /// A read of 524,284 bytes, the most there can be.
+    LargestRead,
     /// A large record appended, with room to spare.
     LargeAppend,
     /// A large record appended, with exactly as much room as it takes.
@@ -53,13 +77,22 @@ pub enum Case {
     WrappedNumber,
 }
 
-pub const CASES: [Case; 10] = [
+pub const CASES: [Case; 19] = [
     Case::FarRecord,
     Case::FarRecordBack,
     Case::FarString,
     Case::FarAppend,
     Case::LongListing,
     Case::LongListingRefused,
+    Case::FullListing,
+    Case::FullListingRefused,
+    Case::FullListingShort,
+    Case::FullProgram,
+    Case::FullProgramRefused,
+    Case::EmptyProgram,
+    Case::LongRead,
+    Case::LongReadBack,
+    Case::LargestRead,
     Case::LargeAppend,
     Case::LargeAppendExact,
     Case::LargeAppendRefused,
@@ -70,6 +103,13 @@ pub const CASES: [Case; 10] = [
 const FAR: usize = 65_536;
 /// Where large begins.
 const LARGE: usize = FAR / 2;
+/// How long a full batch is.
+const FULL: RangeInclusive<usize> = 65_000..=FAR;
+/// Where a long read begins.
+const LONG_READ: usize = 500_001;
+/// The most that records can have within the largest size: Lengths are multiples
+/// of 4.
+pub const LARGEST_READ: usize = plain::MAX_READ / 4 * 4;
 
 /// The six statuses.
 pub const STATUSES: [u32; 6] = [
@@ -470,7 +510,9 @@ impl Check {
     pub fn listing(&mut self, s: &[u8], out_len: usize) {
         let mut out = self.outputs(out_len);
         let proved = eventlog::listing(s, &mut out[0]).map_err(Refused::number);
+        let full = FULL.contains(&s.len());
         let plain = if out_len < s.len() + 64 {
+            self.count_case(Case::FullListingShort, full && out_len + 1 == s.len() + 64);
             Err(15)
         } else {
             let text = listing_text(s);
@@ -478,6 +520,8 @@ impl Check {
             let (long, records) = (s.len() > FAR, text.starts_with("records"));
             self.count_case(Case::LongListing, long && records);
             self.count_case(Case::LongListingRefused, long && !records);
+            self.count_case(Case::FullListing, full && records);
+            self.count_case(Case::FullListingRefused, full && !records);
             Ok(text.len())
         };
         let call = format!("listing into {out_len}");
@@ -486,6 +530,28 @@ impl Check {
         }
         self.same_outputs(&call, &[s], out, plain.unwrap_or(0));
         self.count(Call::Listing, plain.err().unwrap_or(0));
+    }
+
+    /// The built listing program, which gets the batch in two pieces. It exits
+    /// with success and says nothing on standard error.
+    pub fn program(&mut self, s: &[u8], piece: usize) {
+        let answer = run_program(s, piece);
+        let proved = (
+            answer.status.code(),
+            String::from_utf8_lossy(&answer.stdout).into_owned(),
+            String::from_utf8_lossy(&answer.stderr).into_owned(),
+        );
+        let text = plain::listing(s);
+        let number = listed_refusal(&text);
+        let plain = (Some(0), text, String::new());
+        if proved != plain {
+            self.differ("the program list", &[s], &proved, &plain);
+        }
+        let full = FULL.contains(&s.len());
+        self.count_case(Case::FullProgram, full && number == 0);
+        self.count_case(Case::FullProgramRefused, full && number != 0);
+        self.count_case(Case::EmptyProgram, s.is_empty());
+        self.count(Call::Program, number);
     }
 
     /// Writing an event into an output of a length.
@@ -573,6 +639,12 @@ impl Check {
             self.out = out;
         }
         self.tally.calls += 1;
+        self.count_case(Case::LongRead, plain.read >= LONG_READ && flags & 4 != 0);
+        self.count_case(
+            Case::LongReadBack,
+            plain.read >= LONG_READ && flags & 8 != 0,
+        );
+        self.count_case(Case::LargestRead, plain.read == LARGEST_READ);
         let kind = FLAGS.iter().position(|f| *f == flags).unwrap_or(4);
         match STATUSES.iter().position(|s| *s == plain.status) {
             Some(status) => self.tally.statuses[kind][status] += 1,
@@ -593,6 +665,39 @@ fn parts_of(event: &Made) -> [&[u8]; 5] {
         &event.strings,
         &event.data,
     ]
+}
+
+/// What the program `list` writes for a batch on its standard input.
+fn run_program(s: &[u8], piece: usize) -> Output {
+    let path = Path::new(env!("CARGO_MANIFEST_DIR")).join("../../target/bin/list");
+    let mut program = Command::new(&path)
+        .stdin(Stdio::piped())
+        .stdout(Stdio::piped())
+        .stderr(Stdio::piped())
+        .spawn()
+        .unwrap_or_else(|e| panic!("{}: {e}: run `rt check list` first", path.display()));
+    let mut input = program.stdin.take().expect("standard input is a pipe");
+    let (first, second) = s.split_at(piece.min(s.len()));
+    for bytes in [first, second] {
+        match input.write_all(bytes) {
+            // The program does not read on where there are too many bytes.
+            Err(e) if e.kind() == ErrorKind::BrokenPipe && s.len() > FAR => {}
+            answer => answer.expect("the program reads its input"),
+        }
+    }
+    drop(input);
+    program.wait_with_output().expect("the program ends")
+}
+
+/// The refusal that a listing tells, 0 for none.
+fn listed_refusal(text: &str) -> u32 {
+    match text.strip_prefix("refused ") {
+        Some(rest) => {
+            let number = rest.split(' ').next().unwrap_or_default();
+            number.parse().expect("a listing tells a refusal's number")
+        }
+        None => 0,
+    }
 }
 
 /// The plain listing. Its limit of 65,536 bytes is the listing program's, not

@@ -530,6 +530,43 @@ pub fn log(rng: &mut Random, count: usize, size: Size, broken: bool) -> (Vec<u8>
     (bytes, places)
 }
 
+/// Good records that have exactly so many bytes together, a multiple of 4 and at
+/// least 1,024.
+pub fn records_of(rng: &mut Random, len: usize) -> Vec<u8> {
+    let mut bytes = Vec::with_capacity(len);
+    // The last two share the rest, so that neither is too short or too long.
+    while len - bytes.len() > 2 * MAX_LENGTH {
+        bytes.extend(record(rng, Size::Large));
+    }
+    while len - bytes.len() > 4096 {
+        let size = rng.pick(&[Size::Small, Size::Medium]);
+        let next = record(rng, size);
+        if len - bytes.len() < next.len() + 1024 || rng.once_in(40) {
+            break;
+        }
+        bytes.extend(next);
+    }
+    let half = (len - bytes.len()) / 8 * 4;
+    for length in [half, len - bytes.len() - half] {
+        let mut made = Made::good(rng, Size::Small);
+        made.fit(rng, length);
+        bytes.extend(made.encode(Some(rng)));
+    }
+    assert_eq!(bytes.len(), len);
+    bytes
+}
+
+/// Where the good records of a batch start, from the front.
+pub fn starts(batch: &[u8]) -> Vec<usize> {
+    let mut starts = Vec::new();
+    let mut at = 0;
+    while let Ok(length) = plain::judge(batch, at) {
+        starts.push(at);
+        at += length;
+    }
+    starts
+}
+
 /// A buffer with a plausible head over a body with many zero units.
 pub fn noise(rng: &mut Random) -> Vec<u8> {
     let length = 64 + 4 * rng.below(30);
