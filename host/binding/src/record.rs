@@ -3,7 +3,7 @@
 use crate::ffi::{self, Fields, Part, Stepped};
 use crate::refused::Refused;
 
-/// A good record. Its parts are the lent buffer's own bytes; the `_at` fields
+/// A good record. Its parts are the buffer's own bytes; the `_at` fields
 /// are their places in that buffer. An absent part is empty.
 #[derive(Clone, Copy, Debug, PartialEq, Eq)]
 pub struct Record<'a> {
@@ -73,7 +73,7 @@ pub fn refusal(s: &[u8], at: usize) -> Option<Refused> {
 /// The record is judged before the number of the string.
 pub fn string(s: &[u8], at: usize, k: u32) -> Result<&[u8], Refused> {
     Refused::unless(ffi::string_refusal(s, at, k), ())?;
-    Ok(lent(s, ffi::string(s, at, k)))
+    Ok(slice(s, ffi::string(s, at, k)))
 }
 
 /// Why string `k` of the record at `at` is refused, if it is.
@@ -107,21 +107,21 @@ fn record(s: &[u8], stepped: Stepped) -> Result<Record<'_>, Refusal> {
         start: found.start,
         length: found.length,
         fields: found.fields,
-        source_name: lent(s, found.source_name),
+        source_name: slice(s, found.source_name),
         source_name_at: found.source_name.at,
-        computer_name: lent(s, found.computer_name),
+        computer_name: slice(s, found.computer_name),
         computer_name_at: found.computer_name.at,
-        sid: lent(s, found.sid),
+        sid: slice(s, found.sid),
         sid_at: found.sid.at,
-        strings: lent(s, found.strings),
+        strings: slice(s, found.strings),
         strings_at: found.strings.at,
-        event_data: lent(s, found.event_data),
+        event_data: slice(s, found.event_data),
         event_data_at: found.event_data.at,
     })
 }
 
 /// The part's bytes. It is proved to lie in `s`; a panic tells that the structs
 /// here and in the library are laid out differently.
-fn lent(s: &[u8], part: Part) -> &[u8] {
+fn slice(s: &[u8], part: Part) -> &[u8] {
     &s[part.at..][..part.len]
 }

@@ -169,15 +169,15 @@ impl Tally {
 /// Where a part lies: the place told, where the slice itself lies in the
 /// buffer, and its length. The same place and length are the same bytes.
 #[derive(Debug, PartialEq, Eq)]
-struct Lies {
+struct Location {
     told: usize,
     at: usize,
     len: usize,
 }
 
-fn lies(s: &[u8], part: &[u8], told: usize) -> Lies {
+fn location(s: &[u8], part: &[u8], told: usize) -> Location {
     let at = (part.as_ptr() as usize).wrapping_sub(s.as_ptr() as usize);
-    Lies {
+    Location {
         told,
         at,
         len: part.len(),
@@ -190,11 +190,11 @@ struct Seen {
     start: usize,
     length: usize,
     fields: plain::Fields,
-    source_name: Lies,
-    computer_name: Lies,
-    sid: Lies,
-    strings: Lies,
-    event_data: Lies,
+    source_name: Location,
+    computer_name: Location,
+    sid: Location,
+    strings: Location,
+    event_data: Location,
 }
 
 type Answered = Result<Seen, (u32, usize)>;
@@ -214,11 +214,11 @@ fn seen_proved(s: &[u8], answer: Result<eventlog::Record, eventlog::Refusal>) ->
             event_category: r.fields.event_category,
             reserved_flags: r.fields.reserved_flags,
         },
-        source_name: lies(s, r.source_name, r.source_name_at),
-        computer_name: lies(s, r.computer_name, r.computer_name_at),
-        sid: lies(s, r.sid, r.sid_at),
-        strings: lies(s, r.strings, r.strings_at),
-        event_data: lies(s, r.event_data, r.event_data_at),
+        source_name: location(s, r.source_name, r.source_name_at),
+        computer_name: location(s, r.computer_name, r.computer_name_at),
+        sid: location(s, r.sid, r.sid_at),
+        strings: location(s, r.strings, r.strings_at),
+        event_data: location(s, r.event_data, r.event_data_at),
     })
 }
 
@@ -228,11 +228,11 @@ fn seen_plain(s: &[u8], answer: Result<plain::Record, plain::Refusal>) -> Answer
         start: r.start,
         length: r.length,
         fields: r.fields,
-        source_name: lies(s, r.source_name, r.source_name_at),
-        computer_name: lies(s, r.computer_name, r.computer_name_at),
-        sid: lies(s, r.sid, r.sid_at),
-        strings: lies(s, r.strings, r.strings_at),
-        event_data: lies(s, r.event_data, r.event_data_at),
+        source_name: location(s, r.source_name, r.source_name_at),
+        computer_name: location(s, r.computer_name, r.computer_name_at),
+        sid: location(s, r.sid, r.sid_at),
+        strings: location(s, r.strings, r.strings_at),
+        event_data: location(s, r.event_data, r.event_data_at),
     })
 }
 
@@ -388,11 +388,11 @@ impl Check {
     pub fn string(&mut self, s: &[u8], at: usize, k: u32) {
         let number = plain::string_refusal(s, at, k);
         let plain = match number {
-            0 => Ok(lies(s, plain::string(s, at, k), 0)),
+            0 => Ok(location(s, plain::string(s, at, k), 0)),
             number => Err(number),
         };
         let proved = match eventlog::string(s, at, k) {
-            Ok(string) => Ok(lies(s, string, 0)),
+            Ok(string) => Ok(location(s, string, 0)),
             Err(why) => Err(why.number()),
         };
         let told = number_of(eventlog::string_refusal(s, at, k));

@@ -82,28 +82,28 @@ fn sid(rng: &mut Random) -> Vec<u8> {
     sid
 }
 
-fn spoilt_sid(rng: &mut Random) -> Vec<u8> {
-    let mut spoilt = sid(rng);
+fn corrupt_sid(rng: &mut Random) -> Vec<u8> {
+    let mut corrupt = sid(rng);
     match rng.below(4) {
         0 => {
             let len = rng.range(0, 80);
-            spoilt = rng.bytes(len);
+            corrupt = rng.bytes(len);
         }
         1 => {
             let at = rng.below(2);
-            spoilt[at] = rng.pick(&[0, 1, 2, 14, 15, 16, 255]);
+            corrupt[at] = rng.pick(&[0, 1, 2, 14, 15, 16, 255]);
         }
         2 => {
-            let len = spoilt.len() + rng.range(0, 8);
-            spoilt.resize(len - rng.below(len.min(9)), 0);
+            let len = corrupt.len() + rng.range(0, 8);
+            corrupt.resize(len - rng.below(len.min(9)), 0);
         }
         _ => {
             // Sixteen sub-authorities: one too many.
-            spoilt = rng.bytes(72);
-            spoilt[..2].copy_from_slice(&[1, 16]);
+            corrupt = rng.bytes(72);
+            corrupt[..2].copy_from_slice(&[1, 16]);
         }
     }
-    spoilt
+    corrupt
 }
 
 fn number(rng: &mut Random) -> u32 {
@@ -221,12 +221,12 @@ impl Made {
     pub fn bad(rng: &mut Random, size: Size) -> Made {
         let mut made = Made::good(rng, size);
         for _ in 0..rng.range(1, 3) {
-            made.spoil(rng);
+            made.corrupt(rng);
         }
         made
     }
 
-    fn spoil(&mut self, rng: &mut Random) {
+    fn corrupt(&mut self, rng: &mut Random) {
         let f = &mut self.fields;
         match rng.below(16) {
             0 => {
@@ -239,11 +239,11 @@ impl Made {
             1 => f.reserved_flags = 1 << rng.below(16) | rng.pick(&[0, 0x8000]),
             2 => f.num_strings = rng.pick(&[0, 1, 255, 256, 257, 258, 0x8000, 0xFFFF]),
             3 => f.num_strings = f.num_strings.wrapping_add(rng.pick(&[1, 0xFFFF])),
-            4 => spoil_text(rng, &mut self.source),
-            5 => spoil_text(rng, &mut self.computer),
-            6 => spoil_text(rng, &mut self.strings),
+            4 => corrupt_text(rng, &mut self.source),
+            5 => corrupt_text(rng, &mut self.computer),
+            6 => corrupt_text(rng, &mut self.strings),
             7 => self.strings.extend([0, 0]),
-            8..=11 => self.sid = spoilt_sid(rng),
+            8..=11 => self.sid = corrupt_sid(rng),
             12 => {
                 let len = rng.pick(&[MAX_DATA, MAX_DATA + 1, MAX_DATA + 2, 65_536, 70_000]);
                 self.data.resize(len, 7);
@@ -362,7 +362,7 @@ impl Made {
     }
 }
 
-fn spoil_text(rng: &mut Random, bytes: &mut Vec<u8>) {
+fn corrupt_text(rng: &mut Random, bytes: &mut Vec<u8>) {
     match rng.below(4) {
         0 => bytes.push(rng.bits() as u8),
         1 => {
