@@ -8,7 +8,7 @@ use std::ops::RangeInclusive;
 use std::path::Path;
 use std::process::{Command, Output, Stdio};
 
-use eventlog::Refused;
+use eventlog::{Direction, ReadKind, Refusal, Text};
 
 use crate::make::Made;
 
@@ -199,26 +199,27 @@ struct Seen {
 
 type Answered = Result<Seen, (u32, usize)>;
 
-fn seen_proved(s: &[u8], answer: Result<eventlog::Record, eventlog::Refusal>) -> Answered {
-    let r = answer.map_err(|r| (r.why.number(), r.at))?;
+fn seen_proved(s: &[u8], answer: Result<eventlog::Record, eventlog::BadRecord>) -> Answered {
+    let r = answer.map_err(|r| (r.refusal.number(), r.at))?;
+    let (event, places) = (r.event, r.places);
     Ok(Seen {
         start: r.start,
         length: r.length,
         fields: plain::Fields {
-            record_number: r.fields.record_number,
-            time_generated: r.fields.time_generated,
-            time_written: r.fields.time_written,
-            event_id: r.fields.event_id,
-            event_type: r.fields.event_type,
-            num_strings: r.fields.num_strings,
-            event_category: r.fields.event_category,
-            reserved_flags: r.fields.reserved_flags,
+            record_number: r.record_number,
+            time_generated: event.time_generated,
+            time_written: event.time_written,
+            event_id: event.event_id,
+            event_type: event.event_type,
+            num_strings: event.num_strings,
+            event_category: event.event_category,
+            reserved_flags: event.reserved_flags,
         },
-        source_name: location(s, r.source_name, r.source_name_at),
-        computer_name: location(s, r.computer_name, r.computer_name_at),
-        sid: location(s, r.sid, r.sid_at),
-        strings: location(s, r.strings, r.strings_at),
-        event_data: location(s, r.event_data, r.event_data_at),
+        source_name: location(s, event.source_name.as_bytes(), places.source_name),
+        computer_name: location(s, event.computer_name.as_bytes(), places.computer_name),
+        sid: location(s, event.sid, places.sid),
+        strings: location(s, event.strings, places.strings),
+        event_data: location(s, event.event_data, places.event_data),
     })
 }
 
@@ -237,7 +238,7 @@ fn seen_plain(s: &[u8], answer: Result<plain::Record, plain::Refusal>) -> Answer
 }
 
 /// A handle of both libraries.
-#[derive(Clone, Copy, Debug)]
+#[derive(Debug)]
 pub struct Handles {
     pub proved: eventlog::Handle,
     pub plain: plain::Handle,
@@ -263,31 +264,45 @@ impl Handles {
     }
 }
 
-type Served = Result<eventlog::Read, eventlog::ReadRefusal>;
-
-/// The proved read's answer and its handle. What a `Read` or a `ReadRefusal`
-/// leaves out is 0, which the binding's own tests see to.
-fn read_proved(answer: Served) -> (plain::Answer, eventlog::Handle) {
+/// The proved read's answer. What a `Batch` or a `ReadError` leaves out is 0,
+/// which the binding's own tests see to.
+fn read_proved(answer: Result<eventlog::Batch, eventlog::ReadError>) -> plain::Answer {
     let (status, read, needed, handle) = match answer {
-        Ok(r) => (0, r.bytes, 0, r.handle),
-        Err(r) => (r.status.code(), 0, r.needed, r.handle),
+        Ok(batch) => (0, batch.bytes.len(), 0, batch.handle),
+        Err(error) => {
+            let needed = match error.status {
+                eventlog::Status::BufferTooSmall { needed } => needed,
+                _ => 0,
+            };
+            (error.status.code(), 0, needed, error.handle)
+        }
     };
     let place = match handle.place {
         eventlog::Place::Fresh => plain::Place::Fresh,
         eventlog::Place::Boundary(at) => plain::Place::Boundary(at),
     };
-    let seen = plain::Answer {
+    plain::Answer {
         status,
         read,
         needed,
         handle: plain::Handle { place },
-    };
-    (seen, handle)
+    }
+}
+
+/// The four good flags as the proved library has them.
+fn kind_and_direction(flags: u32, number: u32) -> Option<(ReadKind, Direction)> {
+    match flags {
+        5 => Some((ReadKind::Sequential, Direction::Forwards)),
+        9 => Some((ReadKind::Sequential, Direction::Backwards)),
+        6 => Some((ReadKind::Seek(number), Direction::Forwards)),
+        10 => Some((ReadKind::Seek(number), Direction::Backwards)),
+        _ => None,
+    }
 }
 
 /// The number of what may be refused, 0 for none.
-fn number_of(refused: Option<Refused>) -> u32 {
-    refused.map_or(0, Refused::number)
+fn number_of(refusal: Option<Refusal>) -> u32 {
+    refusal.map_or(0, Refusal::number)
 }
 
 /// A read request.
@@ -392,8 +407,8 @@ impl Check {
             number => Err(number),
         };
         let proved = match eventlog::string(s, at, k) {
-            Ok(string) => Ok(location(s, string, 0)),
-            Err(why) => Err(why.number()),
+            Ok(string) => Ok(location(s, string.as_bytes(), 0)),
+            Err(refusal) => Err(refusal.number()),
         };
         let told = number_of(eventlog::string_refusal(s, at, k));
         if proved != plain || told != number {
@@ -431,8 +446,10 @@ impl Check {
 
     /// Both walks.
     pub fn walks(&mut self, s: &[u8]) {
-        let proved =
-            [eventlog::walk(s), eventlog::walk_back(s)].map(|w| (w.count, number_of(w.refusal)));
+        let proved = [eventlog::walk(s), eventlog::walk_back(s)].map(|walk| match walk {
+            Ok(count) => (count, 0),
+            Err(stopped) => (stopped.count, stopped.refusal.number()),
+        });
         let plain = [plain::walk(s), plain::walk_back(s)].map(|w| (w.count, w.refusal));
         if proved != plain {
             self.differ("walk, walk_back", &[s], &proved, &plain);
@@ -442,12 +459,64 @@ impl Check {
         self.count(Call::WalkBack, plain[1].1);
     }
 
+    /// The proved library's records from the front and from the rear, up to the
+    /// refusal where there is one, and the strings of each, against plain steps.
+    pub fn records(&mut self, s: &[u8]) {
+        let (mut at, mut end) = (0, s.len());
+        let (mut front, mut rear) = (Vec::new(), Vec::new());
+        while at < s.len() {
+            front.push(seen_plain(s, plain::step(s, at)));
+            at += plain::judge(s, at).unwrap_or(s.len());
+        }
+        while end > 0 {
+            rear.push(seen_plain(s, plain::step_back(s, end)));
+            end -= plain::judge_back(s, end).unwrap_or(end);
+        }
+        let proved: [Vec<Answered>; 2] = [
+            eventlog::records(s).map(|r| seen_proved(s, r)).collect(),
+            eventlog::records_back(s)
+                .map(|r| seen_proved(s, r))
+                .collect(),
+        ];
+        let plain = [front, rear];
+        if proved != plain {
+            self.differ("records, records_back", &[s], &proved, &plain);
+        }
+        for record in eventlog::records(s).flatten() {
+            self.strings(s, &record);
+        }
+        self.tally.calls += 2;
+    }
+
+    /// All strings of a record, one after another and by number, and none more.
+    fn strings(&mut self, s: &[u8], record: &eventlog::Record) {
+        let mut strings = record.strings();
+        for k in 0..=u32::from(record.event.num_strings) {
+            let next = strings.next().map(Text::as_bytes);
+            let numbered = record.string(k).ok().map(Text::as_bytes);
+            let plain = match plain::string_refusal(s, record.start, k) {
+                0 => Some(plain::string(s, record.start, k)),
+                _ => None,
+            };
+            if (next, numbered) != (plain, plain) {
+                let call = format!("string {k} of the record at {}", record.start);
+                self.differ(&call, &[s], &(next, numbered), &plain);
+            }
+        }
+        self.tally.calls += 2;
+    }
+
     /// A whole buffer: steps and strings at its ends, both walks, the parts by
     /// place, the listing.
     pub fn buffer(&mut self, s: &[u8]) {
         let strings = self.step(s, 0);
-        for k in [0, 1, 2, 255, 256, 257, u32::MAX] {
-            self.string(s, 0, k);
+        // A long record takes long to judge, which each ask does.
+        let numbers = match s.len() {
+            LARGE.. => &[0, u32::MAX][..],
+            _ => &[0, 1, 2, 255, 256, 257, u32::MAX],
+        };
+        for k in numbers {
+            self.string(s, 0, *k);
         }
         if let Some(n @ 1..) = strings {
             self.string(s, 0, n / 2);
@@ -469,7 +538,8 @@ impl Check {
             plain::event_data(s, at),
         ];
         let proved = eventlog::step(s, at).map_or([&[][..]; 4], |r| {
-            [r.source_name, r.computer_name, r.sid, r.event_data]
+            let names = [r.event.source_name, r.event.computer_name].map(Text::as_bytes);
+            [names[0], names[1], r.event.sid, r.event.event_data]
         });
         if proved != plain {
             self.differ(&format!("parts at {at}"), &[s], &proved, &plain);
@@ -509,7 +579,10 @@ impl Check {
     /// The listing into an output of a length.
     pub fn listing(&mut self, s: &[u8], out_len: usize) {
         let mut out = self.outputs(out_len);
-        let proved = eventlog::listing(s, &mut out[0]).map_err(Refused::number);
+        let proved = match eventlog::listing(s, &mut out[0]) {
+            Ok(text) => Ok(text.len()),
+            Err(refusal) => Err(refusal.number()),
+        };
         let full = FULL.contains(&s.len());
         let plain = if out_len < s.len() + 64 {
             self.count_case(Case::FullListingShort, full && out_len + 1 == s.len() + 64);
@@ -557,7 +630,9 @@ impl Check {
     /// Writing an event into an output of a length.
     pub fn write(&mut self, event: &Made, out_len: usize) {
         let mut out = self.outputs(out_len);
-        let proved = eventlog::write(&event.proved(), &mut out[0]).map_err(Refused::number);
+        let number = event.fields.record_number;
+        let proved = eventlog::write(number, &event.proved(), &mut out[0]);
+        let proved = proved.map_err(Refusal::number);
         let plain = plain::write(&event.plain(), &mut out[1]);
         let call = format!("write into {out_len} of {:?}", event.fields);
         let inputs = parts_of(event);
@@ -581,7 +656,7 @@ impl Check {
     pub fn append(&mut self, log: &mut Vec<u8>, used: usize, event: &Made) -> Option<usize> {
         let mut other = log.clone();
         let old = log.clone();
-        let proved = eventlog::append(log, used, &event.proved()).map_err(Refused::number);
+        let proved = eventlog::append(log, used, &event.proved()).map_err(Refusal::number);
         let plain = plain::append(&mut other, used, &event.plain());
         let call = format!("append behind {used} of {:?}", event.fields);
         let parts = parts_of(event);
@@ -625,10 +700,20 @@ impl Check {
             out,
         } = request;
         let mut out = self.outputs(out);
-        let answer = handles.proved.read(log, flags, number, size, &mut out[0]);
-        let plain = handles.plain.read(log, flags, number, size, &mut out[1]);
-        let (seen, proved) = read_proved(answer);
-        let call = || format!("read with {handles:?}, {request:?}");
+        let given = handles.plain;
+        let answer = match kind_and_direction(flags, number) {
+            Some((kind, direction)) => {
+                let handle = handles.proved;
+                handle.read(log, kind, direction, size, &mut out[0])
+            }
+            None => {
+                let handle = handles.proved;
+                handle.read_with_flags(log, flags, number, size, &mut out[0])
+            }
+        };
+        let seen = read_proved(answer);
+        let plain = given.read(log, flags, number, size, &mut out[1]);
+        let call = || format!("read with {given:?}, {request:?}");
         if seen != plain {
             self.differ(&call(), &[log], &seen, &plain);
         }
@@ -650,9 +735,9 @@ impl Check {
             Some(status) => self.tally.statuses[kind][status] += 1,
             None => self.differ(&call(), &[log], &seen, &"no such status"),
         }
-        Handles {
-            proved,
-            plain: plain.handle,
+        match plain.handle.place {
+            plain::Place::Fresh => Handles::fresh(),
+            plain::Place::Boundary(at) => Handles::boundary(at),
         }
     }
 }

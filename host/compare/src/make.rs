@@ -271,21 +271,19 @@ impl Made {
         }
     }
 
+    /// The event for the proved library, which takes the number by itself.
     pub fn proved(&self) -> eventlog::Event<'_> {
         let f = self.fields;
         eventlog::Event {
-            fields: eventlog::Fields {
-                record_number: f.record_number,
-                time_generated: f.time_generated,
-                time_written: f.time_written,
-                event_id: f.event_id,
-                event_type: f.event_type,
-                num_strings: f.num_strings,
-                event_category: f.event_category,
-                reserved_flags: f.reserved_flags,
-            },
-            source_name: &self.source,
-            computer_name: &self.computer,
+            time_generated: f.time_generated,
+            time_written: f.time_written,
+            event_id: f.event_id,
+            event_type: f.event_type,
+            num_strings: f.num_strings,
+            event_category: f.event_category,
+            reserved_flags: f.reserved_flags,
+            source_name: eventlog::Text::new(&self.source),
+            computer_name: eventlog::Text::new(&self.computer),
             sid: &self.sid,
             strings: &self.strings,
             event_data: &self.data,
