@@ -1,7 +1,4 @@
-//! The bench samples S and T byte by byte, and their events, for the tests of both
-//! libraries.
-
-use super::{Event, Fields};
+//! The bench samples S and T byte by byte, for the tests of both libraries.
 
 /// Both names empty, no SID, strings or data, number 7.
 #[rustfmt::skip]
@@ -62,31 +59,6 @@ pub const T1: &[u8] = b"T\x001\0";
 pub const OK: &[u8] = b"O\0K\0";
 pub const OK_RUN: &[u8] = b"O\0K\0\0\0";
 pub const SID: &[u8] = &[1, 1, 0, 0, 0, 0, 0, 0, 0, 0, 0, 0];
-
-pub fn s_event() -> Event<'static> {
-    Event {
-        fields: Fields {
-            record_number: 7,
-            ..Fields::default()
-        },
-        ..Event::default()
-    }
-}
-
-pub fn t_event() -> Event<'static> {
-    Event {
-        fields: Fields {
-            record_number: 8,
-            num_strings: 1,
-            ..Fields::default()
-        },
-        source_name: SCALE,
-        computer_name: T1,
-        sid: SID,
-        strings: OK_RUN,
-        event_data: &[0; 3],
-    }
-}
 
 /// The log S, T.
 pub fn s_t() -> Vec<u8> {

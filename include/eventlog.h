@@ -1,33 +1,54 @@
 /* Windows event records (EVENTLOGRECORD of MS-EVEN 2.2.3): reading, walking, writing, appending and
- * serving them, from a proved library. Link libeventlog.a.
+ * serving them, from a proved library for x86-64 Linux. Link libeventlog.a.
  *
  * Any bytes, any places, any numbers and any handle may be given to any call. A buffer is a pointer and
  * its length; a null pointer with length 0 is an empty one. What is given as const is not changed. An
  * output must not overlap any other buffer of the same call: the proofs take lent buffers to be apart.
  *
- * Numbers in a record are little-endian, and a unit is two bytes. After 56 bytes of fields come, in this order:
- * the source name and the computer name, each ended by its first zero unit; a gap of 0 to 3 bytes up to a
- * multiple of 4 from the record's start; the SID; the strings, each ended by its zero unit; the data; another
- * such gap; Length2. Gaps may hold any bytes. A SID is 8 + 4n bytes, n from 0 to 15, with first byte 1 and
- * second byte n. SID, strings and data may be absent (length or count 0); then their offset is ignored. A
- * present part's offset is the place where this order puts it, counted from the record's start.
+ * Every call is thread-safe: the library has no variables of its own, so calls may run at the same time,
+ * except that nobody else may use a buffer while a call writes to it. Nothing is allocated, no other
+ * library is needed, not even the C library, and no call waits. A call takes at most EVENTLOG_MAX_STACK
+ * bytes of stack below its caller's frame. That was measured: tests/stack.c runs each call on a painted
+ * stack, looks how much of the paint is gone, and holds every call to half of that number. A listing goes
+ * deeper with each digit of a number; there the longest has ten of the twenty that a number can have.
  *
- * Reading a record refuses it with the first number that applies:
- *    1  the place is past the end, or fewer than 64 bytes stand there;
- *    2  Length is under 64, over 65,532 or not a multiple of 4;
- *    3  Length is more than the bytes left;
- *    4  Reserved is not 0x654C664C;
- *    5  Length2 differs from Length;
- *    6  the event type is not 0, 1, 2, 4, 8 or 16;
- *    7  the flags are not 0 or 0x8000;
- *    8  there are more than 256 strings;
- *    9  a name has no zero unit before Length2;
- *   10  a SID is present: its length, offset, first or second byte is wrong, or it runs into Length2;
- *   11  strings are present: their offset is wrong, or one has no zero unit before Length2;
- *   12  data is present: it is over 61,440 bytes, its offset is wrong, or it runs into Length2;
- *   13  Length is not the laid-out size.
- * Other refusals: 14 the log does not end with a good record; 15 the output is too short; 17 there is no such
- * string. No call answers 16: it is the listing program's. */
+ * Texts are UTF-16, little-endian: a unit is two bytes, the low one first. Units are not judged, so that
+ * a text may hold half of a surrogate pair. Numbers in a record are little-endian too.
+ *
+ * A record, places counted from its start:
+ *
+ *    place  bytes  field
+ *        0      4  Length, of the whole record: 64 to 65,532, a multiple of 4
+ *        4      4  Reserved, 0x654C664C
+ *        8      4  RecordNumber
+ *       12      4  TimeGenerated, seconds since 1970
+ *       16      4  TimeWritten, seconds since 1970
+ *       20      4  EventID
+ *       24      2  EventType
+ *       26      2  NumStrings
+ *       28      2  EventCategory
+ *       30      2  ReservedFlags
+ *       32      4  ClosingRecordNumber, ignored
+ *       36      4  StringOffset
+ *       40      4  UserSidLength
+ *       44      4  UserSidOffset
+ *       48      4  DataLength
+ *       52      4  DataOffset
+ *       56         SourceName, ended by its first zero unit
+ *                  Computername, ended by its first zero unit
+ *                  a gap of 0 to 3 bytes, up to a multiple of 4
+ *                  the SID
+ *                  the strings, each ended by its zero unit
+ *                  the data
+ *                  a gap of 0 to 3 bytes, up to a multiple of 4
+ *               4  Length2, the same number as Length
+ *
+ * Gaps may hold any bytes. A SID is 8 + 4n bytes, n from 0 to 15, with first byte 1 and second byte n. SID,
+ * strings and data may be absent (length or count 0); then their offset is ignored. A present part's offset
+ * is the place where this order puts it.
+ *
+ * Cost: a record's names and strings are looked at unit by unit, its data and gaps not at all. Each call says
+ * how often. */
 #ifndef EVENTLOG_H
 #define EVENTLOG_H
 
@@ -37,6 +58,93 @@
 #ifdef __cplusplus
 extern "C" {
 #endif
+
+/* ---- numbers ---- */
+
+#define EVENTLOG_VERSION "0.1.0"
+
+/* Why a call refuses. Reading a record refuses it with the first of 1 to 13 that applies. */
+#define EVENTLOG_NOT_REFUSED 0u
+/* The place is past the end, or fewer than 64 bytes stand there. */
+#define EVENTLOG_REFUSED_PLACE 1u
+/* Length is under 64, over 65,532 or not a multiple of 4. */
+#define EVENTLOG_REFUSED_LENGTH 2u
+/* Length is more than the bytes left. */
+#define EVENTLOG_REFUSED_CUT_SHORT 3u
+/* Reserved is not 0x654C664C. */
+#define EVENTLOG_REFUSED_SIGNATURE 4u
+/* Length2 differs from Length. */
+#define EVENTLOG_REFUSED_LENGTH2 5u
+/* The event type is not 0, 1, 2, 4, 8 or 16. */
+#define EVENTLOG_REFUSED_EVENT_TYPE 6u
+/* The flags are not 0 or 0x8000. */
+#define EVENTLOG_REFUSED_FLAGS 7u
+/* There are more than 256 strings. */
+#define EVENTLOG_REFUSED_STRING_COUNT 8u
+/* A name has no zero unit before Length2; for writing, it is not whole units without a zero one. */
+#define EVENTLOG_REFUSED_NAME 9u
+/* A SID is present: its length, offset, first or second byte is wrong, or it runs into Length2. */
+#define EVENTLOG_REFUSED_SID 10u
+/* Strings are present: their offset is wrong, or one has no zero unit before Length2; for writing, they are
+ * not as many as said. */
+#define EVENTLOG_REFUSED_STRINGS 11u
+/* Data is present: it is over 61,440 bytes, its offset is wrong, or it runs into Length2. */
+#define EVENTLOG_REFUSED_DATA 12u
+/* Length is not the laid-out size. */
+#define EVENTLOG_REFUSED_SIZE 13u
+/* The log does not end with a good record. */
+#define EVENTLOG_REFUSED_LOG_END 14u
+/* The output is too short. */
+#define EVENTLOG_REFUSED_OUTPUT 15u
+/* The listing program's input is too long. No call answers this one. */
+#define EVENTLOG_REFUSED_INPUT 16u
+/* The record has no such string. */
+#define EVENTLOG_REFUSED_NO_STRING 17u
+
+/* What a read answers: an NTSTATUS, under its name in MS-ERREF. */
+#define EVENTLOG_STATUS_SUCCESS 0u
+#define EVENTLOG_STATUS_INVALID_HANDLE 0xC0000008u
+#define EVENTLOG_STATUS_INVALID_PARAMETER 0xC000000Du
+#define EVENTLOG_STATUS_END_OF_FILE 0xC0000011u
+#define EVENTLOG_STATUS_BUFFER_TOO_SMALL 0xC0000023u
+#define EVENTLOG_STATUS_EVENTLOG_FILE_CORRUPT 0xC000018Eu
+
+/* A read's flags: one of the first two, with one of the last two. */
+#define EVENTLOG_SEQUENTIAL 1u
+#define EVENTLOG_SEEK 2u
+#define EVENTLOG_FORWARDS 4u
+#define EVENTLOG_BACKWARDS 8u
+
+/* A handle's kind. Every other number is a boundary too. */
+#define EVENTLOG_FRESH 0u
+#define EVENTLOG_BOUNDARY 1u
+
+/* An event's type, under its name in MS-EVEN 2.2.2. EVENTLOG_SUCCESS is a type and no answer of a call. */
+#define EVENTLOG_SUCCESS 0u
+#define EVENTLOG_ERROR_TYPE 1u
+#define EVENTLOG_WARNING_TYPE 2u
+#define EVENTLOG_INFORMATION_TYPE 4u
+#define EVENTLOG_AUDIT_SUCCESS 8u
+#define EVENTLOG_AUDIT_FAILURE 16u
+
+/* The one value of ReservedFlags but 0: the last string is XML. */
+#define EVENTLOG_FLAGS_XML 0x8000u
+
+/* Reserved, which every record has. */
+#define EVENTLOG_SIGNATURE 0x654C664Cu
+
+/* Limits: a record's Length, its strings, its SID's and its data's bytes; the size that a read may ask; how much
+ * longer than the batch a listing's output has to be; a call's stack. */
+#define EVENTLOG_MIN_LENGTH 64u
+#define EVENTLOG_MAX_LENGTH 65532u
+#define EVENTLOG_MAX_STRINGS 256u
+#define EVENTLOG_MAX_SID 68u
+#define EVENTLOG_MAX_DATA 61440u
+#define EVENTLOG_MAX_READ 524287u
+#define EVENTLOG_LISTING_ROOM 64u
+#define EVENTLOG_MAX_STACK 2048u
+
+/* ---- what is given and answered ---- */
 
 /* The fields of a record that are plain numbers. */
 typedef struct {
@@ -107,8 +215,8 @@ typedef struct {
     size_t used;
 } eventlog_appended;
 
-/* A read handle: kind 0 is fresh, whatever its boundary; every other kind is a boundary at this byte of the
- * log. */
+/* A read handle: kind EVENTLOG_FRESH is fresh, whatever its boundary; every other kind is a boundary at this
+ * byte of the log. */
 typedef struct {
     uint32_t kind;
     size_t boundary;
@@ -123,49 +231,61 @@ typedef struct {
     eventlog_handle handle;
 } eventlog_answer;
 
-/* The record that starts at a place, or its refusal, 1 to 13. */
-eventlog_stepped eventlog_step(const uint8_t *s, size_t s_len, size_t at);
+/* ---- the proved calls ---- */
+
+/* The record that starts at a place, or its refusal, 1 to 13.
+ * Cost: its names and strings are looked at twice, to judge and to show. */
+eventlog_stepped eventlog_step(const uint8_t *buffer, size_t buffer_len, size_t at);
 
 /* The record that ends at a place, or its refusal: 1 where the place is past the end or below 64; 2 and 3 judge
- * Length2 and the bytes before the place; then 4; 5 where Length differs from Length2; then 6 to 13. */
-eventlog_stepped eventlog_step_back(const uint8_t *s, size_t s_len, size_t end);
+ * Length2 and the bytes before the place; then 4; 5 where Length differs from Length2; then 6 to 13.
+ * Cost: as eventlog_step. */
+eventlog_stepped eventlog_step_back(const uint8_t *buffer, size_t buffer_len, size_t end);
 
-/* The refusal of the record that starts at a place, 1 to 13, or 0 where nothing is refused. */
-uint32_t eventlog_refusal(const uint8_t *s, size_t s_len, size_t at);
+/* The refusal of the record that starts at a place, 1 to 13, or 0 where nothing is refused.
+ * Cost: its names and strings are looked at once. */
+uint32_t eventlog_refusal(const uint8_t *buffer, size_t buffer_len, size_t at);
 
 /* Where string k, counted from 0, of the record that starts at a place lies, without its zero unit; at 0 with
- * length 0 where it is refused. */
-eventlog_part eventlog_string(const uint8_t *s, size_t s_len, size_t at, uint32_t k);
+ * length 0 where it is refused.
+ * Cost: as eventlog_step, and the strings up to this one once more. Asked for each string in turn, that is the
+ * number of strings times the record. */
+eventlog_part eventlog_string(const uint8_t *buffer, size_t buffer_len, size_t at, uint32_t k);
 
-/* The refusal of string k: the record's, 1 to 13; 17 where k is not below its number of strings; else 0. */
-uint32_t eventlog_string_refusal(const uint8_t *s, size_t s_len, size_t at, uint32_t k);
+/* The refusal of string k: the record's, 1 to 13; 17 where k is not below its number of strings; else 0.
+ * Cost: as eventlog_step. */
+uint32_t eventlog_string_refusal(const uint8_t *buffer, size_t buffer_len, size_t at, uint32_t k);
 
 /* Walks a batch from the front, until it is used up (refusal 0) or a record is refused with 1 to 13. An empty
- * batch has no records and no refusal. */
-eventlog_walked eventlog_walk(const uint8_t *s, size_t s_len);
+ * batch has no records and no refusal.
+ * Cost: as eventlog_refusal for each record. */
+eventlog_walked eventlog_walk(const uint8_t *buffer, size_t buffer_len);
 
 /* Walks a batch from the rear, until the front is reached (refusal 0) or a record is refused with 1 to 13, as
- * eventlog_step_back does it. Where one walk refuses, so does the other; their answers may differ. */
-eventlog_walked eventlog_walk_back(const uint8_t *s, size_t s_len);
+ * eventlog_step_back does it. Where one walk refuses, so does the other; their answers may differ.
+ * Cost: as eventlog_walk. */
+eventlog_walked eventlog_walk_back(const uint8_t *buffer, size_t buffer_len);
 
 /* Writes a record over the start of the output and answers its Length. Names are given without their zero
- * unit, the strings as one run with their zero units; bytes is the event data. An empty sid, strings or bytes
- * means that the part is absent. Gaps, ClosingRecordNumber and the offsets of absent parts are written as zero.
- * Refused with the first that applies:
+ * unit, the strings as one run with their zero units. An empty sid, strings or event_data means that the part is
+ * absent. Gaps, ClosingRecordNumber and the offsets of absent parts are written as zero. Refused with the first
+ * that applies:
  *    6, 7, 8  as in reading;
  *    9  a name has an odd number of bytes, or a zero unit inside;
  *   10  sid is not empty and not a SID;
  *   11  strings is not exactly num_strings strings, each with its zero unit;
- *   12  bytes is longer than 61,440;
+ *   12  event_data is longer than 61,440;
  *    2  Length would be over 65,532;
  *   15  the output is shorter than Length.
- * A refusal answers length 0 and leaves the output as it was; a success leaves the output past Length. */
-eventlog_written eventlog_write(eventlog_fields f,
-                                const uint8_t *source, size_t source_len,
-                                const uint8_t *computer, size_t computer_len,
+ * A refusal answers length 0 and leaves the output as it was; a success leaves the output past Length.
+ * eventlog_write_event takes the same as a struct.
+ * Cost: the names and strings are looked at once, and every byte is copied once. */
+eventlog_written eventlog_write(eventlog_fields fields,
+                                const uint8_t *source_name, size_t source_name_len,
+                                const uint8_t *computer_name, size_t computer_name_len,
                                 const uint8_t *sid, size_t sid_len,
                                 const uint8_t *strings, size_t strings_len,
-                                const uint8_t *bytes, size_t bytes_len,
+                                const uint8_t *event_data, size_t event_data_len,
                                 uint8_t *out, size_t out_len);
 
 /* Appends a record behind the used bytes of the log and answers how much is used then. Its number is 1 where
@@ -173,22 +293,25 @@ eventlog_written eventlog_write(eventlog_fields f,
  * Refused with 1 where used is more than log_len; with 14 where used is not 0 and eventlog_step_back refuses
  * there; then as in eventlog_write, the rest of the log being the output. Records before the last are not
  * judged. A refusal answers the old used length and leaves the log as it was; a success leaves the log before
- * the old used length and past the new one. */
-eventlog_appended eventlog_append(uint8_t *log, size_t log_len, size_t used, eventlog_unnumbered f,
-                                  const uint8_t *source, size_t source_len,
-                                  const uint8_t *computer, size_t computer_len,
+ * the old used length and past the new one. eventlog_append_event takes the same as a struct.
+ * Cost: as eventlog_step_back and eventlog_write, however long the log is. */
+eventlog_appended eventlog_append(uint8_t *log, size_t log_len, size_t used, eventlog_unnumbered fields,
+                                  const uint8_t *source_name, size_t source_name_len,
+                                  const uint8_t *computer_name, size_t computer_name_len,
                                   const uint8_t *sid, size_t sid_len,
                                   const uint8_t *strings, size_t strings_len,
-                                  const uint8_t *bytes, size_t bytes_len);
+                                  const uint8_t *event_data, size_t event_data_len);
 
 /* A handle that nothing was read with: kind 0, boundary 0. */
 eventlog_handle eventlog_fresh(void);
 
 /* Reads as many records as fit into the size asked, one after another, over the start of the output; it stops
- * before the first that does not fit or that refuses. Flags: 1 sequential or 2 seek, with 4 forwards or 8
- * backwards. Sequential goes on from the boundary; a fresh handle starts at byte 0 forwards and at the log's
- * end backwards. Seek makes the first record from the front with the number the next one, whatever the
- * boundary; the number is for seek alone. Backwards the newest record comes first, its bytes in normal order.
+ * before the first that does not fit or that refuses. The size is what a client asks for, and out_len is what
+ * the caller has lent: a server checks the one against the other here, and nothing past the size is written,
+ * however long the output is. Flags: EVENTLOG_SEQUENTIAL or EVENTLOG_SEEK, with EVENTLOG_FORWARDS or
+ * EVENTLOG_BACKWARDS. Sequential goes on from the boundary; a fresh handle starts at byte 0 forwards and at the
+ * log's end backwards. Seek makes the first record from the front with the record number the next one, whatever
+ * the boundary; the number is for seek alone. Backwards the newest record comes first, its bytes in normal order.
  * Refused with the first status that applies:
  *   0xC000000D  the flags are other ones, or the size is over 524,287 or over out_len;
  *   0xC0000008  the boundary is past the log's end;
@@ -199,17 +322,142 @@ eventlog_handle eventlog_fresh(void);
  *   0xC0000023  the next record is longer than the size asked; needed is its Length.
  * A refusal answers read 0, needed 0 but for the last status, and the handle as it was given; it leaves the
  * output as it was. A success answers the bytes read, needed 0 and a handle of kind 1, with its boundary where
- * the last record copied ended, in the direction of reading; it leaves the output past the bytes read. */
-eventlog_answer eventlog_read(eventlog_handle h, const uint8_t *log, size_t log_len, uint32_t flags,
-                              uint32_t number, size_t size, uint8_t *out, size_t out_len);
+ * the last record copied ended, in the direction of reading; it leaves the output past the bytes read.
+ * Cost: as eventlog_refusal for each record copied and for the one that stops the read, and every byte is copied
+ * once; a seek walks from the front up to the record first. */
+eventlog_answer eventlog_read(eventlog_handle handle, const uint8_t *log, size_t log_len, uint32_t flags,
+                              uint32_t record_number, size_t size, uint8_t *out, size_t out_len);
 
 /* Writes the listing of a batch over the start of the output and answers the length of the text: a line
  * `records N`, then for each record from the front a line `start Length number`. Where eventlog_walk refuses
  * the batch, the text is only the line `refused K at P`, the refusal and the place of the record, and the call
  * still answers refusal 0. Numbers are decimal; each line ends with one newline, and no zero byte follows. The
- * output must be at least 64 bytes longer than the batch: a shorter one is refused with 15 and length 0, before
- * the batch is walked, and left as it was. Else the output past the text is left. */
-eventlog_written eventlog_listing(const uint8_t *s, size_t s_len, uint8_t *out, size_t out_len);
+ * output must be at least EVENTLOG_LISTING_ROOM bytes longer than the batch: a shorter one is refused with 15 and
+ * length 0, before the batch is walked, and left as it was. Else the output past the text is left.
+ * Cost: a walk, and then a step for each record. */
+eventlog_written eventlog_listing(const uint8_t *buffer, size_t buffer_len, uint8_t *out, size_t out_len);
+
+/* ---- written here, in C: not proved ---- */
+
+/* Some bytes, to be given. */
+typedef struct {
+    const uint8_t *bytes;
+    size_t len;
+} eventlog_bytes;
+
+/* All that writing takes but the record number and the output, and all that appending takes but the log. */
+typedef struct {
+    eventlog_unnumbered fields;
+    eventlog_bytes source_name;
+    eventlog_bytes computer_name;
+    eventlog_bytes sid;
+    eventlog_bytes strings;
+    eventlog_bytes event_data;
+} eventlog_event;
+
+/* Initialisers of an eventlog_bytes from a literal of UTF-16 (C11, C++11): a name, u"Scale", and a run of strings,
+ * u"first\0second". The compiler adds the last string's zero unit. */
+#ifdef __cplusplus
+#define EVENTLOG_NAME(literal) {reinterpret_cast<const uint8_t *>(literal), sizeof(literal) - 2}
+#define EVENTLOG_STRINGS(literal) {reinterpret_cast<const uint8_t *>(literal), sizeof(literal)}
+#else
+#define EVENTLOG_NAME(literal) {(const uint8_t *)(literal), sizeof(literal) - 2}
+#define EVENTLOG_STRINGS(literal) {(const uint8_t *)(literal), sizeof(literal)}
+#endif
+
+/* eventlog_write of an event. */
+static inline eventlog_written eventlog_write_event(uint32_t record_number, const eventlog_event *event,
+                                                    uint8_t *out, size_t out_len)
+{
+    eventlog_fields fields;
+    fields.record_number = record_number;
+    fields.time_generated = event->fields.time_generated;
+    fields.time_written = event->fields.time_written;
+    fields.event_id = event->fields.event_id;
+    fields.event_type = event->fields.event_type;
+    fields.num_strings = event->fields.num_strings;
+    fields.event_category = event->fields.event_category;
+    fields.reserved_flags = event->fields.reserved_flags;
+    return eventlog_write(fields,
+                          event->source_name.bytes, event->source_name.len,
+                          event->computer_name.bytes, event->computer_name.len,
+                          event->sid.bytes, event->sid.len,
+                          event->strings.bytes, event->strings.len,
+                          event->event_data.bytes, event->event_data.len,
+                          out, out_len);
+}
+
+/* eventlog_append of an event. */
+static inline eventlog_appended eventlog_append_event(uint8_t *log, size_t log_len, size_t used,
+                                                      const eventlog_event *event)
+{
+    return eventlog_append(log, log_len, used, event->fields,
+                           event->source_name.bytes, event->source_name.len,
+                           event->computer_name.bytes, event->computer_name.len,
+                           event->sid.bytes, event->sid.len,
+                           event->strings.bytes, event->strings.len,
+                           event->event_data.bytes, event->event_data.len);
+}
+
+/* A part's own bytes. The part is to lie in the buffer, as the parts of a record found there do. */
+static inline eventlog_bytes eventlog_bytes_of(const uint8_t *buffer, eventlog_part part)
+{
+    eventlog_bytes own;
+    own.bytes = part.len == 0 ? buffer : buffer + part.at;
+    own.len = part.len;
+    return own;
+}
+
+/* The event of a record that was found in the buffer: to be written or appended again. Its parts are the
+ * buffer's own bytes. */
+static inline eventlog_event eventlog_event_of(const uint8_t *buffer, const eventlog_record *record)
+{
+    eventlog_event event;
+    event.fields.time_generated = record->fields.time_generated;
+    event.fields.time_written = record->fields.time_written;
+    event.fields.event_id = record->fields.event_id;
+    event.fields.event_type = record->fields.event_type;
+    event.fields.num_strings = record->fields.num_strings;
+    event.fields.event_category = record->fields.event_category;
+    event.fields.reserved_flags = record->fields.reserved_flags;
+    event.source_name = eventlog_bytes_of(buffer, record->source_name);
+    event.computer_name = eventlog_bytes_of(buffer, record->computer_name);
+    event.sid = eventlog_bytes_of(buffer, record->sid);
+    event.strings = eventlog_bytes_of(buffer, record->strings);
+    event.event_data = eventlog_bytes_of(buffer, record->event_data);
+    return event;
+}
+
+/* A refusal or a status in plain words, without a full stop; it is not to be freed. */
+static inline const char *eventlog_message(uint32_t number)
+{
+    switch (number) {
+    case EVENTLOG_NOT_REFUSED: return "nothing is refused";
+    case EVENTLOG_REFUSED_PLACE: return "the place is past the end, or too few bytes stand there";
+    case EVENTLOG_REFUSED_LENGTH: return "Length is out of range or not a multiple of 4";
+    case EVENTLOG_REFUSED_CUT_SHORT: return "Length is more than the bytes left";
+    case EVENTLOG_REFUSED_SIGNATURE: return "Reserved is not the signature";
+    case EVENTLOG_REFUSED_LENGTH2: return "Length and Length2 differ";
+    case EVENTLOG_REFUSED_EVENT_TYPE: return "the event type is none of the six";
+    case EVENTLOG_REFUSED_FLAGS: return "the flags are neither 0 nor 0x8000";
+    case EVENTLOG_REFUSED_STRING_COUNT: return "there are more than 256 strings";
+    case EVENTLOG_REFUSED_NAME: return "a name is not ended, or cannot be a name";
+    case EVENTLOG_REFUSED_SID: return "the SID is wrong or misplaced";
+    case EVENTLOG_REFUSED_STRINGS: return "the strings are misplaced, not ended, or not as many as said";
+    case EVENTLOG_REFUSED_DATA: return "the data is too long or misplaced";
+    case EVENTLOG_REFUSED_SIZE: return "Length is not the laid-out size";
+    case EVENTLOG_REFUSED_LOG_END: return "the log does not end with a good record";
+    case EVENTLOG_REFUSED_OUTPUT: return "the output is too short";
+    case EVENTLOG_REFUSED_INPUT: return "the listing program's input is too long";
+    case EVENTLOG_REFUSED_NO_STRING: return "the record has no such string";
+    case EVENTLOG_STATUS_INVALID_HANDLE: return "the handle's boundary is past the log's end";
+    case EVENTLOG_STATUS_INVALID_PARAMETER: return "flags or size are wrong, or no record has the number sought";
+    case EVENTLOG_STATUS_END_OF_FILE: return "no bytes are left in that direction";
+    case EVENTLOG_STATUS_BUFFER_TOO_SMALL: return "the next record is longer than the size asked";
+    case EVENTLOG_STATUS_EVENTLOG_FILE_CORRUPT: return "a record that is not good is met";
+    default: return "no number that the library answers";
+    }
+}
 
 #ifdef __cplusplus
 }

@@ -1,4 +1,4 @@
-/* The C border: every call with 01's samples, what it refuses, and which bytes it leaves alone. */
+/* The C border: every call with the samples S and T, what it refuses, and which bytes it leaves alone. */
 #include "eventlog.h"
 
 #include <stdio.h>
@@ -48,10 +48,13 @@ static void check(int line, int holds, const char *fact)
 
 /* ---- the samples ---- */
 
-/* 01's records S and T, joined. In T the numbers are not 0, and no two are the same. */
+/* The build paper's records S and T, joined. S is as it stands there. T has the paper's texts and layout, but other
+ * numbers: those that the paper leaves at 0 are not 0 here, no two fields are the same, and neither the SID nor the
+ * data is as the paper has it, so that an exchange shows. */
 enum { S = 0, T = 64, END = 168, S_LENGTH = 64, T_LENGTH = 104, S_NUMBER = 7, T_NUMBER = 0x14131211 };
 
-static const uint8_t batch[END] = {
+/* A few zero bytes behind them, so that a part with another one's length lies in the array. */
+static const uint8_t batch[END + 16] = {
     [S] = S_LENGTH, [S + 4] = 'L', 'f', 'L', 'e', [S + 8] = S_NUMBER, [S + 60] = S_LENGTH,
 
     [T] = T_LENGTH, [T + 4] = 'L', 'f', 'L', 'e',
@@ -74,51 +77,49 @@ static const uint8_t batch[END] = {
     [T + 100] = T_LENGTH,
 };
 
-typedef struct {
-    const uint8_t *p;
-    size_t len;
-} lent;
-
-/* What writing takes but the output. */
-typedef struct {
-    eventlog_fields f;
-    lent source, computer, sid, strings, data;
-} event;
-
 /* Every part that is not named is lent as a null pointer with length 0. */
-static const event event_s = {.f = {.record_number = S_NUMBER}};
+static const eventlog_event event_s = {.fields = {.time_generated = 0}};
 
 /* Fields are named everywhere: values in the header's order would follow a wrong order of the header. */
-static const event event_t = {
-    .f = {.record_number = T_NUMBER, .time_generated = 0x24232221, .time_written = 0x34333231,
-          .event_id = 0x44434241, .event_type = 16, .num_strings = 1, .event_category = 0x5251,
-          .reserved_flags = 0x8000},
-    .source = {batch + T + 56, 10}, .computer = {batch + T + 68, 4}, .sid = {batch + T + 76, 12},
-    .strings = {batch + T + 88, 6}, .data = {batch + T + 94, 3},
+#define FIELDS_OF_T                                                                                              \
+    .time_generated = 0x24232221, .time_written = 0x34333231, .event_id = 0x44434241, .event_type = 16,          \
+    .num_strings = 1, .event_category = 0x5251, .reserved_flags = 0x8000
+
+static const eventlog_event event_t = {
+    .fields = {FIELDS_OF_T},
+    .source_name = {batch + T + 56, 10}, .computer_name = {batch + T + 68, 4}, .sid = {batch + T + 76, 12},
+    .strings = {batch + T + 88, 6}, .event_data = {batch + T + 94, 3},
 };
 
-static eventlog_written write_event(event e, uint8_t *out, size_t out_len)
+static const eventlog_fields fields_s = {.record_number = S_NUMBER};
+static const eventlog_fields fields_t = {.record_number = T_NUMBER, FIELDS_OF_T};
+
+/* The proved calls, without the header's own functions. */
+static eventlog_written write_event(uint32_t number, eventlog_event e, uint8_t *out, size_t out_len)
 {
-    return eventlog_write(e.f, e.source.p, e.source.len, e.computer.p, e.computer.len, e.sid.p, e.sid.len,
-                          e.strings.p, e.strings.len, e.data.p, e.data.len, out, out_len);
+    eventlog_fields fields = {
+        .record_number = number, .time_generated = e.fields.time_generated,
+        .time_written = e.fields.time_written, .event_id = e.fields.event_id, .event_type = e.fields.event_type,
+        .num_strings = e.fields.num_strings, .event_category = e.fields.event_category,
+        .reserved_flags = e.fields.reserved_flags,
+    };
+    return eventlog_write(fields, e.source_name.bytes, e.source_name.len, e.computer_name.bytes, e.computer_name.len,
+                          e.sid.bytes, e.sid.len, e.strings.bytes, e.strings.len, e.event_data.bytes,
+                          e.event_data.len, out, out_len);
 }
 
-static eventlog_appended append_event(uint8_t *log, size_t log_len, size_t used, event e)
+static eventlog_appended append_event(uint8_t *log, size_t log_len, size_t used, eventlog_event e)
 {
-    eventlog_unnumbered f = {
-        .time_generated = e.f.time_generated, .time_written = e.f.time_written, .event_id = e.f.event_id,
-        .event_type = e.f.event_type, .num_strings = e.f.num_strings, .event_category = e.f.event_category,
-        .reserved_flags = e.f.reserved_flags,
-    };
-    return eventlog_append(log, log_len, used, f, e.source.p, e.source.len, e.computer.p, e.computer.len,
-                           e.sid.p, e.sid.len, e.strings.p, e.strings.len, e.data.p, e.data.len);
+    return eventlog_append(log, log_len, used, e.fields, e.source_name.bytes, e.source_name.len,
+                           e.computer_name.bytes, e.computer_name.len, e.sid.bytes, e.sid.len, e.strings.bytes,
+                           e.strings.len, e.event_data.bytes, e.event_data.len);
 }
 
 /* What a step shows of S and of T where they start at a place; an absent part has a place too. */
 static eventlog_record record_s(size_t at)
 {
     return (eventlog_record){
-        .start = at, .length = S_LENGTH, .fields = event_s.f,
+        .start = at, .length = S_LENGTH, .fields = fields_s,
         .source_name = {.at = at + 56}, .computer_name = {.at = at + 58}, .sid = {.at = at + 60},
         .strings = {.at = at + 60}, .event_data = {.at = at + 60},
     };
@@ -127,7 +128,7 @@ static eventlog_record record_s(size_t at)
 static eventlog_record record_t(size_t at)
 {
     return (eventlog_record){
-        .start = at, .length = T_LENGTH, .fields = event_t.f,
+        .start = at, .length = T_LENGTH, .fields = fields_t,
         .source_name = {.at = at + 56, .len = 10}, .computer_name = {.at = at + 68, .len = 4},
         .sid = {.at = at + 76, .len = 12}, .strings = {.at = at + 88, .len = 6},
         .event_data = {.at = at + 94, .len = 3},
@@ -228,7 +229,7 @@ static const struct {
     size_t record, at;
     uint8_t byte;
     uint32_t front, rear;
-} spoilt[] = {
+} corrupted[] = {
     {__LINE__, S, 0, 60, 2, 5},
     {__LINE__, T, 0, 102, 2, 5},
     {__LINE__, T, 2, 1, 2, 5}, /* Length 65,640 */
@@ -255,24 +256,24 @@ static const struct {
     {__LINE__, T, 48, 2, 13, 13},
 };
 
-static void spoilt_records_are_refused(void)
+static void corrupted_records_are_refused(void)
 {
-    for (size_t i = 0; i < COUNT(spoilt); i++) {
-        int line = spoilt[i].line;
-        size_t len = spoilt[i].record == S ? S_LENGTH : T_LENGTH;
+    for (size_t i = 0; i < COUNT(corrupted); i++) {
+        int line = corrupted[i].line;
+        size_t len = corrupted[i].record == S ? S_LENGTH : T_LENGTH;
         uint8_t r[T_LENGTH];
-        memcpy(r, batch + spoilt[i].record, len);
-        r[spoilt[i].at] = spoilt[i].byte;
-        step_refuses(line, eventlog_step(r, len, 0), 0, spoilt[i].front);
-        step_refuses(line, eventlog_step_back(r, len, len), len, spoilt[i].rear);
-        CHECK_AT(line, eventlog_refusal(r, len, 0) == spoilt[i].front);
-        CHECK_AT(line, eventlog_string_refusal(r, len, 0, 0) == spoilt[i].front);
+        memcpy(r, batch + corrupted[i].record, len);
+        r[corrupted[i].at] = corrupted[i].byte;
+        step_refuses(line, eventlog_step(r, len, 0), 0, corrupted[i].front);
+        step_refuses(line, eventlog_step_back(r, len, len), len, corrupted[i].rear);
+        CHECK_AT(line, eventlog_refusal(r, len, 0) == corrupted[i].front);
+        CHECK_AT(line, eventlog_string_refusal(r, len, 0, 0) == corrupted[i].front);
         eventlog_part string = eventlog_string(r, len, 0, 0);
         CHECK_AT(line, string.at == 0 && string.len == 0);
         eventlog_walked w = eventlog_walk(r, len);
-        CHECK_AT(line, w.count == 0 && w.refusal == spoilt[i].front);
+        CHECK_AT(line, w.count == 0 && w.refusal == corrupted[i].front);
         w = eventlog_walk_back(r, len);
-        CHECK_AT(line, w.count == 0 && w.refusal == spoilt[i].rear);
+        CHECK_AT(line, w.count == 0 && w.refusal == corrupted[i].rear);
     }
 }
 
@@ -299,10 +300,10 @@ static void strings_are_found(void)
     static const uint8_t three[] = {'A', 0, 0, 0, 0, 0, 'B', 0, 'C', 0, 0, 0};
     uint8_t s[116];
     fill(s, sizeof s);
-    event e = event_t;
-    e.f.num_strings = 3;
-    e.strings = (lent){three, sizeof three};
-    eventlog_written w = write_event(e, s + 8, sizeof s - 8);
+    eventlog_event e = event_t;
+    e.fields.num_strings = 3;
+    e.strings = (eventlog_bytes){three, sizeof three};
+    eventlog_written w = write_event(T_NUMBER, e, s + 8, sizeof s - 8);
     CHECK(w.refusal == 0 && w.length == 108);
     for (size_t i = 0; i < COUNT(asked); i++) {
         eventlog_part part = eventlog_string(s, sizeof s, asked[i].at, asked[i].k);
@@ -363,27 +364,27 @@ static void lend(size_t n)
     memcpy(want, out, n);
 }
 
-static void writes(int line, event e, size_t out_len, const uint8_t *record, size_t length)
+static void writes(int line, uint32_t number, eventlog_event e, size_t out_len, const uint8_t *record, size_t length)
 {
     lend(256);
     memcpy(want, record, length);
-    eventlog_written w = write_event(e, out, out_len);
+    eventlog_written w = write_event(number, e, out, out_len);
     CHECK_AT(line, w.refusal == 0 && w.length == length);
     CHECK_AT(line, memcmp(out, want, 256) == 0);
 }
 
 static void write_lays_out(void)
 {
-    writes(__LINE__, event_s, 128, batch + S, S_LENGTH);
-    writes(__LINE__, event_s, S_LENGTH, batch + S, S_LENGTH);
-    writes(__LINE__, event_t, 128, batch + T, T_LENGTH);
-    writes(__LINE__, event_t, T_LENGTH, batch + T, T_LENGTH);
+    writes(__LINE__, S_NUMBER, event_s, 128, batch + S, S_LENGTH);
+    writes(__LINE__, S_NUMBER, event_s, S_LENGTH, batch + S, S_LENGTH);
+    writes(__LINE__, T_NUMBER, event_t, 128, batch + T, T_LENGTH);
+    writes(__LINE__, T_NUMBER, event_t, T_LENGTH, batch + T, T_LENGTH);
 }
 
-static void write_refuses(int line, event e, size_t out_len, uint32_t refusal)
+static void write_refuses(int line, eventlog_event e, size_t out_len, uint32_t refusal)
 {
     lend(65540);
-    eventlog_written w = write_event(e, out, out_len);
+    eventlog_written w = write_event(T_NUMBER, e, out, out_len);
     CHECK_AT(line, w.refusal == refusal);
     CHECK_AT(line, w.length == 0);
     CHECK_AT(line, memcmp(out, want, 65540) == 0);
@@ -392,7 +393,7 @@ static void write_refuses(int line, event e, size_t out_len, uint32_t refusal)
 enum { LOG = 200 };
 
 /* The log is S and T and 32 bytes. */
-static void append_refuses(int line, size_t log_len, size_t used, event e, uint32_t refusal)
+static void append_refuses(int line, size_t log_len, size_t used, eventlog_event e, uint32_t refusal)
 {
     uint8_t log[LOG], before[LOG];
     fill(log, LOG);
@@ -407,7 +408,7 @@ static void append_refuses(int line, size_t log_len, size_t used, event e, uint3
 /* T with a change is neither written nor appended. */
 #define REFUSES(refusal, ...)                            \
     do {                                                 \
-        event e = event_t;                               \
+        eventlog_event e = event_t;                      \
         __VA_ARGS__;                                     \
         write_refuses(__LINE__, e, 65540, refusal);      \
         append_refuses(__LINE__, LOG, END, e, refusal);  \
@@ -415,68 +416,69 @@ static void append_refuses(int line, size_t log_len, size_t used, event e, uint3
 
 static void numbers_and_texts_are_refused(void)
 {
-    REFUSES(6, e.f.event_type = 3);
-    REFUSES(6, e.f.event_type = 32);
-    REFUSES(7, e.f.reserved_flags = 0x4000);
-    REFUSES(7, e.f.reserved_flags = 0x8001);
-    REFUSES(8, e.f.num_strings = 257; e.strings = (lent){zeros, 514});
-    REFUSES(9, e.source.len = 9);
-    REFUSES(9, e.source = (lent){zeros, 2});
-    REFUSES(9, e.computer.len = 3);
-    REFUSES(9, e.computer.len = 6);
+    REFUSES(6, e.fields.event_type = 3);
+    REFUSES(6, e.fields.event_type = 32);
+    REFUSES(7, e.fields.reserved_flags = 0x4000);
+    REFUSES(7, e.fields.reserved_flags = 0x8001);
+    REFUSES(8, e.fields.num_strings = 257; e.strings = (eventlog_bytes){zeros, 514});
+    REFUSES(9, e.source_name.len = 9);
+    REFUSES(9, e.source_name = (eventlog_bytes){zeros, 2});
+    REFUSES(9, e.computer_name.len = 3);
+    REFUSES(9, e.computer_name.len = 6);
     REFUSES(10, e.sid.len = 11);
     REFUSES(10, e.sid.len = 8);
-    REFUSES(10, e.sid = (lent){zeros, 8});
-    REFUSES(10, e.sid = (lent){ones, 7});
-    REFUSES(10, e.sid = (lent){sid_of_16, 72});
-    REFUSES(11, e.strings = (lent){NULL, 0});
+    REFUSES(10, e.sid = (eventlog_bytes){zeros, 8});
+    REFUSES(10, e.sid = (eventlog_bytes){ones, 7});
+    REFUSES(10, e.sid = (eventlog_bytes){sid_of_16, 72});
+    REFUSES(11, e.strings = (eventlog_bytes){NULL, 0});
     REFUSES(11, e.strings.len = 4);
     REFUSES(11, e.strings.len = 7);
-    REFUSES(11, e.f.num_strings = 0);
-    REFUSES(11, e.f.num_strings = 2);
+    REFUSES(11, e.fields.num_strings = 0);
+    REFUSES(11, e.fields.num_strings = 2);
 }
 
 static void sizes_are_refused(void)
 {
-    REFUSES(12, e.data = (lent){zeros, 61441});
-    REFUSES(2, e.source = (lent){ones, 65400}; e.computer = (lent){ones, 200});
-    REFUSES(2, e = event_s; e.source = (lent){ones, 65470});
+    REFUSES(12, e.event_data = (eventlog_bytes){zeros, 61441});
+    REFUSES(2, e.source_name = (eventlog_bytes){ones, 65400}; e.computer_name = (eventlog_bytes){ones, 200});
+    REFUSES(2, e = event_s; e.source_name = (eventlog_bytes){ones, 65470});
     write_refuses(__LINE__, event_t, T_LENGTH - 1, 15);
     write_refuses(__LINE__, event_s, S_LENGTH - 1, 15);
-    eventlog_written w = write_event(event_s, NULL, 0);
+    eventlog_written w = write_event(S_NUMBER, event_s, NULL, 0);
     CHECK(w.refusal == 15 && w.length == 0);
 }
 
 /* An event has every fault, and they are mended one by one. */
 static void write_refuses_in_order(void)
 {
-    event e = {.f = {.event_type = 3, .reserved_flags = 0x4000, .num_strings = 257}, .source = {ones, 65469},
-               .computer = {zeros, 2}, .sid = {zeros, 8}, .strings = {zeros, 3}, .data = {zeros, 61441}};
+    eventlog_event e = {.fields = {.event_type = 3, .reserved_flags = 0x4000, .num_strings = 257},
+                        .source_name = {ones, 65469}, .computer_name = {zeros, 2}, .sid = {zeros, 8},
+                        .strings = {zeros, 3}, .event_data = {zeros, 61441}};
     write_refuses(__LINE__, e, 63, 6);
-    e.f.event_type = 1;
+    e.fields.event_type = 1;
     write_refuses(__LINE__, e, 63, 7);
-    e.f.reserved_flags = 0;
+    e.fields.reserved_flags = 0;
     write_refuses(__LINE__, e, 63, 8);
-    e.f.num_strings = 256;
+    e.fields.num_strings = 256;
     write_refuses(__LINE__, e, 63, 9);
-    e.source.len = 65468;
+    e.source_name.len = 65468;
     write_refuses(__LINE__, e, 63, 9);
-    e.computer.len = 0;
+    e.computer_name.len = 0;
     write_refuses(__LINE__, e, 63, 10);
     e.sid.len = 0;
     write_refuses(__LINE__, e, 63, 11);
     e.strings.len = 512;
     write_refuses(__LINE__, e, 63, 12);
-    e.data.len = 61440;
+    e.event_data.len = 61440;
     write_refuses(__LINE__, e, 63, 2);
-    e.source.len = 0;
+    e.source_name.len = 0;
     write_refuses(__LINE__, e, 63, 15);
 }
 
-static void write_accepts(int line, event e, size_t length)
+static void write_accepts(int line, eventlog_event e, size_t length)
 {
     lend(65540);
-    eventlog_written w = write_event(e, out, length);
+    eventlog_written w = write_event(T_NUMBER, e, out, length);
     CHECK_AT(line, w.refusal == 0);
     CHECK_AT(line, w.length == length);
     CHECK_AT(line, memcmp(out + length, want + length, 65540 - length) == 0);
@@ -486,23 +488,23 @@ static void write_accepts(int line, event e, size_t length)
 /* S with a change is accepted and has this Length. */
 #define ACCEPTS(length, ...)                             \
     do {                                                 \
-        event e = event_s;                               \
+        eventlog_event e = event_s;                      \
         __VA_ARGS__;                                     \
         write_accepts(__LINE__, e, length);              \
     } while (0)
 
 static void write_accepts_types_and_limits(void)
 {
-    ACCEPTS(64, e.f.event_type = 1);
-    ACCEPTS(64, e.f.event_type = 2);
-    ACCEPTS(64, e.f.event_type = 4);
-    ACCEPTS(64, e.f.event_type = 8);
-    ACCEPTS(64, e.f.event_type = 16);
-    ACCEPTS(64, e.f.reserved_flags = 0x8000);
-    ACCEPTS(576, e.f.num_strings = 256; e.strings = (lent){zeros, 512});
-    ACCEPTS(65532, e.source = (lent){ones, 65468});
-    ACCEPTS(132, e.sid = (lent){sid_of_15, 68});
-    ACCEPTS(61504, e.data = (lent){zeros, 61440});
+    ACCEPTS(64, e.fields.event_type = 1);
+    ACCEPTS(64, e.fields.event_type = 2);
+    ACCEPTS(64, e.fields.event_type = 4);
+    ACCEPTS(64, e.fields.event_type = 8);
+    ACCEPTS(64, e.fields.event_type = 16);
+    ACCEPTS(64, e.fields.reserved_flags = 0x8000);
+    ACCEPTS(576, e.fields.num_strings = 256; e.strings = (eventlog_bytes){zeros, 512});
+    ACCEPTS(65532, e.source_name = (eventlog_bytes){ones, 65468});
+    ACCEPTS(132, e.sid = (eventlog_bytes){sid_of_15, 68});
+    ACCEPTS(61504, e.event_data = (eventlog_bytes){zeros, 61440});
 }
 
 /* ---- append ---- */
@@ -545,8 +547,8 @@ static void append_numbers_after_the_last(void)
 
 static void append_refuses_in_order(void)
 {
-    event bad = event_t;
-    bad.f.event_type = 3;
+    eventlog_event bad = event_t;
+    bad.fields.event_type = 3;
     append_refuses(__LINE__, END, END + 1, event_t, 1);
     append_refuses(__LINE__, END, SIZE_MAX, bad, 1);
     append_refuses(__LINE__, 0, 1, event_t, 1);
@@ -747,12 +749,102 @@ static void listing_answers(void)
     CHECK(w.refusal == 15 && w.length == 0);
 }
 
+/* ---- the header's own functions ---- */
+
+/* T, but for its number, is what was written behind S in this log. */
+static int is_t(const uint8_t *log)
+{
+    return memcmp(log + T, batch + T, 8) == 0 && memcmp(log + T + 12, batch + T + 12, T_LENGTH - 12) == 0;
+}
+
+static void events_are_taken_apart(void)
+{
+    lend(256);
+    memcpy(want, batch + T, T_LENGTH);
+    eventlog_written w = eventlog_write_event(T_NUMBER, &event_t, out, T_LENGTH);
+    CHECK(w.refusal == 0 && w.length == T_LENGTH);
+    CHECK(memcmp(out, want, 256) == 0);
+    lend(256);
+    w = eventlog_write_event(T_NUMBER, &event_t, out, T_LENGTH - 1);
+    CHECK(w.refusal == 15 && w.length == 0);
+    CHECK(memcmp(out, want, 256) == 0);
+
+    uint8_t log[LOG], after[LOG];
+    fill(log, LOG);
+    memcpy(log, batch, S_LENGTH);
+    memcpy(after, log, LOG);
+    eventlog_appended a = eventlog_append_event(log, END - 1, T, &event_t);
+    CHECK(a.refusal == 15 && a.used == T);
+    CHECK(memcmp(log, after, LOG) == 0);
+    a = eventlog_append_event(log, END, T, &event_t);
+    CHECK(a.refusal == 0 && a.used == END);
+    memcpy(after + T, batch + T, T_LENGTH);
+    memcpy(after + T + 8, (const uint8_t[]){S_NUMBER + 1, 0, 0, 0}, 4);
+    CHECK(memcmp(log, after, LOG) == 0);
+}
+
+static void swap_bytes(const uint8_t **a, const uint8_t **b)
+{
+    const uint8_t *first = *a;
+    *a = *b;
+    *b = first;
+}
+
+static void swap_lens(size_t *a, size_t *b)
+{
+    size_t first = *a;
+    *a = *b;
+    *b = first;
+}
+
+/* Two parts of T are exchanged, or only where they are, or only how long: neither function then gives T. So a
+ * function that exchanged them itself would not give T for T. */
+static void exchanges_show(void)
+{
+    enum { BYTES = 1, LENS = 2 };
+    for (size_t i = 0; i < 5; i++)
+        for (size_t k = 0; k < i; k++)
+            for (int what = BYTES; what <= (BYTES | LENS); what++) {
+                eventlog_event e = event_t;
+                eventlog_bytes *parts[] = {&e.source_name, &e.computer_name, &e.sid, &e.strings, &e.event_data};
+                if (what & BYTES)
+                    swap_bytes(&parts[i]->bytes, &parts[k]->bytes);
+                if (what & LENS)
+                    swap_lens(&parts[i]->len, &parts[k]->len);
+                uint8_t log[LOG];
+                fill(log, LOG);
+                memcpy(log, batch, S_LENGTH);
+                CHECK(eventlog_write_event(T_NUMBER, &e, log + T, LOG - T).refusal != 0 || !is_t(log));
+                fill(log + T, LOG - T);
+                CHECK(eventlog_append_event(log, LOG, T, &e).refusal != 0 || !is_t(log));
+            }
+    uint8_t log[LOG];
+    memcpy(log, batch, S_LENGTH);
+    CHECK(eventlog_append_event(log, LOG, T, &event_t).refusal == 0 && is_t(log));
+}
+
+static void records_are_written_again(void)
+{
+    for (size_t at = 0, length = 0; at < END; at += length) {
+        eventlog_record found = eventlog_step(batch, END, at).found;
+        eventlog_event e = eventlog_event_of(batch, &found);
+        length = found.length;
+        lend(256);
+        memcpy(want, batch + at, length);
+        CHECK(eventlog_write_event(found.fields.record_number, &e, out, sizeof out).length == length);
+        CHECK(memcmp(out, want, 256) == 0);
+    }
+    eventlog_bytes own = eventlog_bytes_of(batch, (eventlog_part){.at = T + 56, .len = 10});
+    CHECK(own.bytes == batch + T + 56 && own.len == 10);
+    CHECK(eventlog_bytes_of(NULL, (eventlog_part){.at = 0, .len = 0}).len == 0);
+}
+
 int main(void)
 {
     memset(ones, 1, sizeof ones);
     steps_find();
     steps_refuse_places();
-    spoilt_records_are_refused();
+    corrupted_records_are_refused();
     strings_are_found();
     walks_answer();
     write_lays_out();
@@ -767,6 +859,9 @@ int main(void)
     read_refuses();
     read_goes_on();
     listing_answers();
+    events_are_taken_apart();
+    exchanges_show();
+    records_are_written_again();
     puts(failed ? "eventlog.c: failed" : "eventlog.c: passed");
     return failed;
 }

@@ -3,11 +3,9 @@
 
 use crate::Event;
 
-/// The fields of a record that do not follow from its layout.
 #[repr(C)]
-#[derive(Clone, Copy, Debug, Default, PartialEq, Eq, Hash)]
-#[allow(missing_docs)]
-pub struct Fields {
+#[derive(Clone, Copy, Debug, Default, PartialEq, Eq)]
+pub(crate) struct Fields {
     pub record_number: u32,
     pub time_generated: u32,
     pub time_written: u32,
@@ -102,26 +100,26 @@ const _: () = {
     assert!(size_of::<Handle>() == 16 && size_of::<Answer>() == 40);
 };
 
-extern "C" {
-    fn eventlog_step(s: *const u8, s_len: usize, at: usize) -> Stepped;
-    fn eventlog_step_back(s: *const u8, s_len: usize, end: usize) -> Stepped;
-    fn eventlog_refusal(s: *const u8, s_len: usize, at: usize) -> u32;
-    fn eventlog_string(s: *const u8, s_len: usize, at: usize, k: u32) -> Part;
-    fn eventlog_string_refusal(s: *const u8, s_len: usize, at: usize, k: u32) -> u32;
-    fn eventlog_walk(s: *const u8, s_len: usize) -> Walked;
-    fn eventlog_walk_back(s: *const u8, s_len: usize) -> Walked;
+unsafe extern "C" {
+    fn eventlog_step(buffer: *const u8, buffer_len: usize, at: usize) -> Stepped;
+    fn eventlog_step_back(buffer: *const u8, buffer_len: usize, end: usize) -> Stepped;
+    fn eventlog_refusal(buffer: *const u8, buffer_len: usize, at: usize) -> u32;
+    fn eventlog_string(buffer: *const u8, buffer_len: usize, at: usize, k: u32) -> Part;
+    fn eventlog_string_refusal(buffer: *const u8, buffer_len: usize, at: usize, k: u32) -> u32;
+    fn eventlog_walk(buffer: *const u8, buffer_len: usize) -> Walked;
+    fn eventlog_walk_back(buffer: *const u8, buffer_len: usize) -> Walked;
     fn eventlog_write(
-        f: Fields,
-        source: *const u8,
-        source_len: usize,
-        computer: *const u8,
-        computer_len: usize,
+        fields: Fields,
+        source_name: *const u8,
+        source_name_len: usize,
+        computer_name: *const u8,
+        computer_name_len: usize,
         sid: *const u8,
         sid_len: usize,
         strings: *const u8,
         strings_len: usize,
-        bytes: *const u8,
-        bytes_len: usize,
+        event_data: *const u8,
+        event_data_len: usize,
         out: *mut u8,
         out_len: usize,
     ) -> Written;
@@ -129,77 +127,93 @@ extern "C" {
         log: *mut u8,
         log_len: usize,
         used: usize,
-        f: Unnumbered,
-        source: *const u8,
-        source_len: usize,
-        computer: *const u8,
-        computer_len: usize,
+        fields: Unnumbered,
+        source_name: *const u8,
+        source_name_len: usize,
+        computer_name: *const u8,
+        computer_name_len: usize,
         sid: *const u8,
         sid_len: usize,
         strings: *const u8,
         strings_len: usize,
-        bytes: *const u8,
-        bytes_len: usize,
+        event_data: *const u8,
+        event_data_len: usize,
     ) -> Appended;
     fn eventlog_fresh() -> Handle;
     fn eventlog_read(
-        h: Handle,
+        handle: Handle,
         log: *const u8,
         log_len: usize,
         flags: u32,
-        number: u32,
+        record_number: u32,
         size: usize,
         out: *mut u8,
         out_len: usize,
     ) -> Answer;
-    fn eventlog_listing(s: *const u8, s_len: usize, out: *mut u8, out_len: usize) -> Written;
+    fn eventlog_listing(
+        buffer: *const u8,
+        buffer_len: usize,
+        out: *mut u8,
+        out_len: usize,
+    ) -> Written;
 }
 
-pub(crate) fn step(s: &[u8], at: usize) -> Stepped {
-    // SAFETY: `s` is readable for its length; any place may be asked for.
-    unsafe { eventlog_step(s.as_ptr(), s.len(), at) }
+pub(crate) fn step(buffer: &[u8], at: usize) -> Stepped {
+    // SAFETY: `buffer` is readable for its length; any place may be asked for.
+    unsafe { eventlog_step(buffer.as_ptr(), buffer.len(), at) }
 }
 
-pub(crate) fn step_back(s: &[u8], end: usize) -> Stepped {
+pub(crate) fn step_back(buffer: &[u8], end: usize) -> Stepped {
     // SAFETY: as in `step`.
-    unsafe { eventlog_step_back(s.as_ptr(), s.len(), end) }
+    unsafe { eventlog_step_back(buffer.as_ptr(), buffer.len(), end) }
 }
 
-pub(crate) fn refusal(s: &[u8], at: usize) -> u32 {
+pub(crate) fn refusal(buffer: &[u8], at: usize) -> u32 {
     // SAFETY: as in `step`.
-    unsafe { eventlog_refusal(s.as_ptr(), s.len(), at) }
+    unsafe { eventlog_refusal(buffer.as_ptr(), buffer.len(), at) }
 }
 
-pub(crate) fn string(s: &[u8], at: usize, k: u32) -> Part {
+pub(crate) fn string(buffer: &[u8], at: usize, k: u32) -> Part {
     // SAFETY: as in `step`; any number may be asked for.
-    unsafe { eventlog_string(s.as_ptr(), s.len(), at, k) }
+    unsafe { eventlog_string(buffer.as_ptr(), buffer.len(), at, k) }
 }
 
-pub(crate) fn string_refusal(s: &[u8], at: usize, k: u32) -> u32 {
+pub(crate) fn string_refusal(buffer: &[u8], at: usize, k: u32) -> u32 {
     // SAFETY: as in `string`.
-    unsafe { eventlog_string_refusal(s.as_ptr(), s.len(), at, k) }
+    unsafe { eventlog_string_refusal(buffer.as_ptr(), buffer.len(), at, k) }
 }
 
-pub(crate) fn walk(s: &[u8]) -> Walked {
-    // SAFETY: `s` is readable for its length.
-    unsafe { eventlog_walk(s.as_ptr(), s.len()) }
+pub(crate) fn walk(buffer: &[u8]) -> Walked {
+    // SAFETY: `buffer` is readable for its length.
+    unsafe { eventlog_walk(buffer.as_ptr(), buffer.len()) }
 }
 
-pub(crate) fn walk_back(s: &[u8]) -> Walked {
-    // SAFETY: `s` is readable for its length.
-    unsafe { eventlog_walk_back(s.as_ptr(), s.len()) }
+pub(crate) fn walk_back(buffer: &[u8]) -> Walked {
+    // SAFETY: `buffer` is readable for its length.
+    unsafe { eventlog_walk_back(buffer.as_ptr(), buffer.len()) }
 }
 
-pub(crate) fn write(e: &Event<'_>, out: &mut [u8]) -> Written {
+pub(crate) fn write(record_number: u32, e: &Event<'_>, out: &mut [u8]) -> Written {
+    let fields = Fields {
+        record_number,
+        time_generated: e.time_generated,
+        time_written: e.time_written,
+        event_id: e.event_id,
+        event_type: e.event_type,
+        num_strings: e.num_strings,
+        event_category: e.event_category,
+        reserved_flags: e.reserved_flags,
+    };
+    let (source_name, computer_name) = (e.source_name.as_bytes(), e.computer_name.as_bytes());
     // SAFETY: the parts are readable for their lengths, `out` is writable for
     // its own and, as a `&mut`, overlaps none of them.
     unsafe {
         eventlog_write(
-            e.fields,
-            e.source_name.as_ptr(),
-            e.source_name.len(),
-            e.computer_name.as_ptr(),
-            e.computer_name.len(),
+            fields,
+            source_name.as_ptr(),
+            source_name.len(),
+            computer_name.as_ptr(),
+            computer_name.len(),
             e.sid.as_ptr(),
             e.sid.len(),
             e.strings.as_ptr(),
@@ -213,26 +227,27 @@ pub(crate) fn write(e: &Event<'_>, out: &mut [u8]) -> Written {
 }
 
 pub(crate) fn append(log: &mut [u8], used: usize, e: &Event<'_>) -> Appended {
-    let f = Unnumbered {
-        time_generated: e.fields.time_generated,
-        time_written: e.fields.time_written,
-        event_id: e.fields.event_id,
-        event_type: e.fields.event_type,
-        num_strings: e.fields.num_strings,
-        event_category: e.fields.event_category,
-        reserved_flags: e.fields.reserved_flags,
+    let fields = Unnumbered {
+        time_generated: e.time_generated,
+        time_written: e.time_written,
+        event_id: e.event_id,
+        event_type: e.event_type,
+        num_strings: e.num_strings,
+        event_category: e.event_category,
+        reserved_flags: e.reserved_flags,
     };
+    let (source_name, computer_name) = (e.source_name.as_bytes(), e.computer_name.as_bytes());
     // SAFETY: as in `write`, with `log` for `out`; any `used` may be given.
     unsafe {
         eventlog_append(
             log.as_mut_ptr(),
             log.len(),
             used,
-            f,
-            e.source_name.as_ptr(),
-            e.source_name.len(),
-            e.computer_name.as_ptr(),
-            e.computer_name.len(),
+            fields,
+            source_name.as_ptr(),
+            source_name.len(),
+            computer_name.as_ptr(),
+            computer_name.len(),
             e.sid.as_ptr(),
             e.sid.len(),
             e.strings.as_ptr(),
@@ -249,7 +264,7 @@ pub(crate) fn fresh() -> Handle {
 }
 
 pub(crate) fn read(
-    h: Handle,
+    handle: Handle,
     log: &[u8],
     flags: u32,
     number: u32,
@@ -260,7 +275,7 @@ pub(crate) fn read(
     // does not overlap; any handle and numbers may be given.
     unsafe {
         eventlog_read(
-            h,
+            handle,
             log.as_ptr(),
             log.len(),
             flags,
@@ -272,30 +287,31 @@ pub(crate) fn read(
     }
 }
 
-pub(crate) fn listing(s: &[u8], out: &mut [u8]) -> Written {
-    // SAFETY: `s` is readable and `out` writable for its length; a `&mut`
+pub(crate) fn listing(buffer: &[u8], out: &mut [u8]) -> Written {
+    // SAFETY: `buffer` is readable and `out` writable for its length; a `&mut`
     // does not overlap.
-    unsafe { eventlog_listing(s.as_ptr(), s.len(), out.as_mut_ptr(), out.len()) }
+    unsafe { eventlog_listing(buffer.as_ptr(), buffer.len(), out.as_mut_ptr(), out.len()) }
 }
 
 #[cfg(test)]
 mod tests {
     use super::*;
+    use crate::{Text, utf16};
+    use std::vec;
+    use std::vec::Vec;
 
-    /// Sample T's event, with data that is not zero.
+    /// Sample T's number and event, with data that is not zero.
+    const NUMBER: u32 = 8;
     const EVENT: Event<'static> = Event {
-        fields: Fields {
-            record_number: 8,
-            time_generated: 0,
-            time_written: 0,
-            event_id: 0,
-            event_type: 0,
-            num_strings: 1,
-            event_category: 0,
-            reserved_flags: 0,
-        },
-        source_name: b"S\0c\0a\0l\0e\0",
-        computer_name: b"T\x001\0",
+        time_generated: 0,
+        time_written: 0,
+        event_id: 0,
+        event_type: 0,
+        num_strings: 1,
+        event_category: 0,
+        reserved_flags: 0,
+        source_name: utf16!("Scale"),
+        computer_name: utf16!("T1"),
         sid: &[1, 1, 0, 0, 0, 0, 0, 0, 0, 0, 0, 0],
         strings: b"O\0K\0\0\0",
         event_data: &[1, 2, 3],
@@ -308,7 +324,7 @@ mod tests {
             refusal: 0,
             length: LENGTH,
         };
-        assert_eq!(write(&EVENT, &mut record), written);
+        assert_eq!(write(NUMBER, &EVENT, &mut record), written);
         record
     }
 
@@ -341,6 +357,9 @@ mod tests {
         ]
     }
 
+    static TOO_MUCH_DATA: [u8; 61_441] = [0; 61_441];
+    static TOO_LONG_NAME: [u8; 65_532] = [1; 65_532];
+
     /// Events with each refusal of the writer but that of the output.
     fn refused_events() -> [(u32, Event<'static>); 8] {
         let with = |change: fn(&mut Event<'static>)| {
@@ -349,14 +368,14 @@ mod tests {
             event
         };
         [
-            (6, with(|e| e.fields.event_type = 3)),
-            (7, with(|e| e.fields.reserved_flags = 1)),
-            (8, with(|e| e.fields.num_strings = 257)),
-            (9, with(|e| e.computer_name = b"T")),
+            (6, with(|e| e.event_type = 3)),
+            (7, with(|e| e.reserved_flags = 1)),
+            (8, with(|e| e.num_strings = 257)),
+            (9, with(|e| e.computer_name = Text::new(b"T"))),
             (10, with(|e| e.sid = &[1])),
             (11, with(|e| e.strings = &[])),
-            (12, with(|e| e.event_data = &[0; 61_441])),
-            (2, with(|e| e.source_name = &[1; 65_532])),
+            (12, with(|e| e.event_data = &TOO_MUCH_DATA)),
+            (2, with(|e| e.source_name = Text::new(&TOO_LONG_NAME))),
         ]
     }
 
@@ -407,9 +426,9 @@ mod tests {
         let refused = |refusal| Written { refusal, length: 0 };
         let mut out = [0xEE; 200];
         for (refusal, event) in refused_events() {
-            assert_eq!(write(&event, &mut out), refused(refusal));
+            assert_eq!(write(NUMBER, &event, &mut out), refused(refusal));
         }
-        assert_eq!(write(&EVENT, &mut out[..LENGTH - 1]), refused(15));
+        assert_eq!(write(NUMBER, &EVENT, &mut out[..LENGTH - 1]), refused(15));
         let log = record();
         assert_eq!(listing(&log, &mut out[..LENGTH + 63]), refused(15));
         assert_eq!(out, [0xEE; 200]);

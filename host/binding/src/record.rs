@@ -1,127 +1,267 @@
-//! Records, strings and walks.
+//! Records and their strings.
 
-use crate::ffi::{self, Fields, Part, Stepped};
-use crate::refused::Refused;
+use core::error::Error;
+use core::fmt;
 
-/// A good record. Its parts are the lent buffer's own bytes; the `_at` fields
-/// are their places in that buffer. An absent part is empty.
+use crate::ffi::{self, Part, Stepped};
+use crate::refusal::Refusal;
+use crate::text::{Strings, Text};
+use crate::write::Event;
+
+/// A good record: where it starts in the buffer, its number, its event and
+/// where its parts lie. The parts are the buffer's own bytes.
+///
+/// ```
+/// use eventlog::{step, utf16, write, Event};
+///
+/// let event = Event { source_name: utf16!("Scale"), event_data: &[1, 2, 3], ..Event::default() };
+/// let mut buffer = [0; 100];
+/// let length = write(7, &event, &mut buffer)?;
+///
+/// let record = step(&buffer, 0)?;
+/// assert_eq!((record.start, record.length, record.record_number), (0, length, 7));
+/// assert_eq!(record.event, event);
+/// # Ok::<(), Box<dyn std::error::Error>>(())
+/// ```
+#[non_exhaustive]
 #[derive(Clone, Copy, Debug, PartialEq, Eq)]
 pub struct Record<'a> {
     /// Where the record starts in the buffer.
     pub start: usize,
     /// Length, the whole record in bytes.
     pub length: usize,
-    /// The fields that do not follow from the layout.
-    pub fields: Fields,
-    /// SourceName without its zero unit.
-    pub source_name: &'a [u8],
-    /// Place of SourceName.
-    pub source_name_at: usize,
-    /// Computername without its zero unit.
-    pub computer_name: &'a [u8],
-    /// Place of Computername.
-    pub computer_name_at: usize,
-    /// The security identifier.
-    pub sid: &'a [u8],
-    /// Place of the security identifier.
-    pub sid_at: usize,
-    /// The strings as one run, with their zero units.
-    pub strings: &'a [u8],
-    /// Place of the strings.
-    pub strings_at: usize,
-    /// The event's data.
-    pub event_data: &'a [u8],
-    /// Place of the data.
-    pub event_data_at: usize,
+    /// The record's number.
+    pub record_number: u32,
+    /// All the rest that the record holds, as writing takes it. An absent part
+    /// is empty.
+    pub event: Event<'a>,
+    /// Where the parts lie in the buffer.
+    pub places: Places,
+}
+
+/// Where a record's parts lie in the buffer. An absent part has a place too:
+/// where the order would put it.
+///
+/// ```
+/// use eventlog::{step, write, Event};
+///
+/// let mut buffer = [0; 64];
+/// write(7, &Event::default(), &mut buffer)?;
+/// let places = step(&buffer, 0)?.places;
+/// assert_eq!((places.source_name, places.computer_name, places.sid), (56, 58, 60));
+/// # Ok::<(), Box<dyn std::error::Error>>(())
+/// ```
+#[non_exhaustive]
+#[derive(Clone, Copy, Debug, PartialEq, Eq)]
+pub struct Places {
+    /// The first byte of the source name.
+    pub source_name: usize,
+    /// The first byte of the computer name.
+    pub computer_name: usize,
+    /// The first byte of the security identifier.
+    pub sid: usize,
+    /// The first byte of the strings.
+    pub strings: usize,
+    /// The first byte of the data.
+    pub event_data: usize,
 }
 
 /// Why no record was read, and the place that was asked for: the start in
 /// [`step`], the end in [`step_back`].
+///
+/// ```
+/// use eventlog::{step, Refusal};
+///
+/// let refused = step(&[0; 64], 1).unwrap_err();
+/// assert_eq!((refused.refusal, refused.at), (Refusal::Place, 1));
+/// let text = "refused 1 at 1: the place is past the end, or too few bytes stand there";
+/// assert_eq!(refused.to_string(), text);
+/// ```
+#[non_exhaustive]
 #[derive(Clone, Copy, Debug, PartialEq, Eq)]
-pub struct Refusal {
+pub struct BadRecord {
     /// One of the reader's, numbers 1 to 13.
-    pub why: Refused,
+    pub refusal: Refusal,
     /// The place asked for.
     pub at: usize,
 }
 
-/// What a walk found.
-#[derive(Clone, Copy, Debug, Default, PartialEq, Eq)]
-pub struct Walked {
-    /// Records found before the walk ended.
-    pub count: usize,
-    /// The refusal that ended the walk, `None` where the buffer was used up.
-    pub refusal: Option<Refused>,
-}
-
-/// Reads the record that starts at `at`.
-pub fn step(s: &[u8], at: usize) -> Result<Record<'_>, Refusal> {
-    record(s, ffi::step(s, at))
-}
-
-/// Reads the record that ends at `end`.
-pub fn step_back(s: &[u8], end: usize) -> Result<Record<'_>, Refusal> {
-    record(s, ffi::step_back(s, end))
-}
-
-/// Why the record at `at` is refused, if it is.
-pub fn refusal(s: &[u8], at: usize) -> Option<Refused> {
-    Refused::from_number(ffi::refusal(s, at))
-}
-
-/// String `k` of the record at `at`, counted from 0, without its zero unit.
-/// The record is judged before the number of the string.
-pub fn string(s: &[u8], at: usize, k: u32) -> Result<&[u8], Refused> {
-    Refused::unless(ffi::string_refusal(s, at, k), ())?;
-    Ok(lent(s, ffi::string(s, at, k)))
-}
-
-/// Why string `k` of the record at `at` is refused, if it is.
-pub fn string_refusal(s: &[u8], at: usize, k: u32) -> Option<Refused> {
-    Refused::from_number(ffi::string_refusal(s, at, k))
-}
-
-/// Steps from the front until the buffer is used up or a step refuses.
-pub fn walk(s: &[u8]) -> Walked {
-    ffi::walk(s).into()
-}
-
-/// Steps from the rear until the buffer is used up or a step refuses.
-pub fn walk_back(s: &[u8]) -> Walked {
-    ffi::walk_back(s).into()
-}
-
-impl From<ffi::Walked> for Walked {
-    fn from(walked: ffi::Walked) -> Self {
-        Walked {
-            count: walked.count,
-            refusal: Refused::from_number(walked.refusal),
-        }
+impl fmt::Display for BadRecord {
+    fn fmt(&self, f: &mut fmt::Formatter<'_>) -> fmt::Result {
+        let BadRecord { refusal, at } = self;
+        write!(f, "refused {} at {at}: {refusal}", refusal.number())
     }
 }
 
-fn record(s: &[u8], stepped: Stepped) -> Result<Record<'_>, Refusal> {
+impl Error for BadRecord {}
+
+impl<'a> Record<'a> {
+    /// The strings, each without its zero unit.
+    ///
+    /// ```
+    /// use eventlog::{step, utf16, write, Event};
+    ///
+    /// let strings = utf16!("first\0second\0").as_bytes();
+    /// let event = Event { num_strings: 2, strings, ..Event::default() };
+    /// let mut buffer = [0; 100];
+    /// write(1, &event, &mut buffer)?;
+    /// assert!(step(&buffer, 0)?.strings().eq(["first", "second"]));
+    /// # Ok::<(), Box<dyn std::error::Error>>(())
+    /// ```
+    pub fn strings(&self) -> Strings<'a> {
+        Strings::new(self.event.strings)
+    }
+
+    /// String `k`, counted from 0, without its zero unit. The step that read the
+    /// record has judged it; here it is not judged again, as [`string`] does.
+    ///
+    /// # Errors
+    ///
+    /// [`Refusal::NoString`], where the record has no such string.
+    ///
+    /// ```
+    /// use eventlog::{step, utf16, write, Event, Refusal};
+    ///
+    /// let strings = utf16!("first\0second\0").as_bytes();
+    /// let event = Event { num_strings: 2, strings, ..Event::default() };
+    /// let mut buffer = [0; 100];
+    /// write(1, &event, &mut buffer)?;
+    /// let record = step(&buffer, 0)?;
+    /// assert_eq!(record.string(1)?, "second");
+    /// assert_eq!(record.string(2), Err(Refusal::NoString));
+    /// # Ok::<(), Box<dyn std::error::Error>>(())
+    /// ```
+    pub fn string(&self, k: u32) -> Result<Text<'a>, Refusal> {
+        if k >= u32::from(self.event.num_strings) {
+            return Err(Refusal::NoString);
+        }
+        self.strings().nth(k as usize).ok_or(Refusal::NoString)
+    }
+}
+
+/// Reads the record that starts at `at`.
+///
+/// # Errors
+///
+/// [`BadRecord`] with the first refusal that applies, and `at`.
+///
+/// ```
+/// use eventlog::{step, write, Event, Refusal};
+///
+/// let mut buffer = [0; 100];
+/// let length = write(7, &Event::default(), &mut buffer[8..])?;
+/// assert_eq!(step(&buffer, 8)?.length, length);
+/// assert_eq!(step(&buffer, 9).unwrap_err().refusal, Refusal::Length);
+/// # Ok::<(), Box<dyn std::error::Error>>(())
+/// ```
+pub fn step(buffer: &[u8], at: usize) -> Result<Record<'_>, BadRecord> {
+    record(buffer, &ffi::step(buffer, at))
+}
+
+/// Reads the record that ends at `end`.
+///
+/// # Errors
+///
+/// [`BadRecord`] with the first refusal that applies, and `end`.
+///
+/// ```
+/// use eventlog::{step, step_back, write, Event};
+///
+/// let mut buffer = [0; 100];
+/// let length = write(7, &Event::default(), &mut buffer)?;
+/// assert_eq!(step_back(&buffer, length), step(&buffer, 0));
+/// # Ok::<(), eventlog::Refusal>(())
+/// ```
+pub fn step_back(buffer: &[u8], end: usize) -> Result<Record<'_>, BadRecord> {
+    record(buffer, &ffi::step_back(buffer, end))
+}
+
+/// Why the record that starts at `at` is refused, if it is. This costs less
+/// than a [`step`], which looks for the parts a second time.
+///
+/// ```
+/// use eventlog::{refusal, write, Event, Refusal};
+///
+/// let mut buffer = [0; 64];
+/// write(7, &Event::default(), &mut buffer)?;
+/// assert_eq!(refusal(&buffer, 0), None);
+/// assert_eq!(refusal(&buffer[..63], 0), Some(Refusal::Place));
+/// # Ok::<(), eventlog::Refusal>(())
+/// ```
+#[must_use]
+pub fn refusal(buffer: &[u8], at: usize) -> Option<Refusal> {
+    Refusal::from_number(ffi::refusal(buffer, at))
+}
+
+/// String `k`, counted from 0, of the record that starts at `at`, without its
+/// zero unit. It judges the record each time; for more than one string take
+/// [`Record::strings`].
+///
+/// # Errors
+///
+/// The record's refusal, or [`Refusal::NoString`].
+///
+/// ```
+/// use eventlog::{string, utf16, write, Event, Refusal};
+///
+/// let event = Event { num_strings: 1, strings: utf16!("OK\0").as_bytes(), ..Event::default() };
+/// let mut buffer = [0; 100];
+/// write(7, &event, &mut buffer)?;
+/// assert_eq!(string(&buffer, 0, 0)?, "OK");
+/// assert_eq!(string(&buffer, 0, 1), Err(Refusal::NoString));
+/// assert_eq!(string(&buffer, 1, 0), Err(Refusal::Length));
+/// # Ok::<(), Refusal>(())
+/// ```
+pub fn string(buffer: &[u8], at: usize, k: u32) -> Result<Text<'_>, Refusal> {
+    Refusal::unless(ffi::string_refusal(buffer, at, k), ())?;
+    Ok(Text::new(slice(buffer, ffi::string(buffer, at, k))))
+}
+
+/// Why string `k` of the record that starts at `at` is refused, if it is.
+///
+/// ```
+/// use eventlog::{string_refusal, Refusal};
+/// assert_eq!(string_refusal(&[], 0, 0), Some(Refusal::Place));
+/// ```
+#[must_use]
+pub fn string_refusal(buffer: &[u8], at: usize, k: u32) -> Option<Refusal> {
+    Refusal::from_number(ffi::string_refusal(buffer, at, k))
+}
+
+fn record<'a>(buffer: &'a [u8], stepped: &Stepped) -> Result<Record<'a>, BadRecord> {
     let Stepped { refusal, at, found } = stepped;
-    Refused::unless(refusal, ()).map_err(|why| Refusal { why, at })?;
+    Refusal::unless(*refusal, ()).map_err(|refusal| BadRecord { refusal, at: *at })?;
+    let fields = found.fields;
     Ok(Record {
         start: found.start,
         length: found.length,
-        fields: found.fields,
-        source_name: lent(s, found.source_name),
-        source_name_at: found.source_name.at,
-        computer_name: lent(s, found.computer_name),
-        computer_name_at: found.computer_name.at,
-        sid: lent(s, found.sid),
-        sid_at: found.sid.at,
-        strings: lent(s, found.strings),
-        strings_at: found.strings.at,
-        event_data: lent(s, found.event_data),
-        event_data_at: found.event_data.at,
+        record_number: fields.record_number,
+        event: Event {
+            time_generated: fields.time_generated,
+            time_written: fields.time_written,
+            event_id: fields.event_id,
+            event_type: fields.event_type,
+            num_strings: fields.num_strings,
+            event_category: fields.event_category,
+            reserved_flags: fields.reserved_flags,
+            source_name: Text::new(slice(buffer, found.source_name)),
+            computer_name: Text::new(slice(buffer, found.computer_name)),
+            sid: slice(buffer, found.sid),
+            strings: slice(buffer, found.strings),
+            event_data: slice(buffer, found.event_data),
+        },
+        places: Places {
+            source_name: found.source_name.at,
+            computer_name: found.computer_name.at,
+            sid: found.sid.at,
+            strings: found.strings.at,
+            event_data: found.event_data.at,
+        },
     })
 }
 
-/// The part's bytes. It is proved to lie in `s`; a panic tells that the structs
-/// here and in the library are laid out differently.
-fn lent(s: &[u8], part: Part) -> &[u8] {
-    &s[part.at..][..part.len]
+/// The part's bytes. It is proved to lie in the buffer; a panic tells that the
+/// structs here and in the library are laid out differently.
+fn slice(buffer: &[u8], part: Part) -> &[u8] {
+    &buffer[part.at..][..part.len]
 }

@@ -7,169 +7,319 @@ mod samples;
 
 use samples::*;
 
+const S_NUMBER: u32 = 7;
+const T_NUMBER: u32 = 8;
+
+fn t_event() -> Event<'static> {
+    Event {
+        num_strings: 1,
+        source_name: Text::new(SCALE),
+        computer_name: Text::new(T1),
+        sid: SID,
+        strings: OK_RUN,
+        event_data: &[0; 3],
+        ..Event::default()
+    }
+}
+
 fn put(bytes: &[u8], at: usize, value: u8) -> Vec<u8> {
     let mut changed = bytes.to_vec();
     changed[at] = value;
     changed
 }
 
+/// Refusal and place of a step.
+fn refused(answer: Result<Record, BadRecord>) -> (Refusal, usize) {
+    let bad = answer.expect_err("the record is refused");
+    (bad.refusal, bad.at)
+}
+
 #[test]
 fn read() {
     let log = s_t();
     let s = step(&log, 0).unwrap();
-    assert_eq!((s.start, s.length, s.fields), (0, 64, s_event().fields));
-    assert!(s.source_name.is_empty() && s.computer_name.is_empty());
-    assert!(s.sid.is_empty() && s.strings.is_empty() && s.event_data.is_empty());
+    assert_eq!((s.start, s.length, s.record_number), (0, 64, S_NUMBER));
+    assert_eq!(s.event, Event::default());
 
     let t = step(&log, 64).unwrap();
-    assert_eq!((t.start, t.length, t.fields), (64, 104, t_event().fields));
-    assert_eq!((t.source_name, t.source_name_at), (SCALE, 64 + 56));
-    assert_eq!((t.computer_name, t.computer_name_at), (T1, 64 + 68));
-    assert_eq!((t.sid, t.sid_at), (SID, 64 + 76));
-    assert_eq!((t.strings, t.strings_at), (OK_RUN, 64 + 88));
-    assert_eq!((t.event_data, t.event_data_at), (&[0; 3][..], 64 + 94));
+    assert_eq!((t.start, t.length, t.record_number), (64, 104, T_NUMBER));
+    assert_eq!(t.event, t_event());
+    assert_eq!(t.event.source_name, "Scale");
+    assert_eq!(t.event.computer_name, "T1");
+    let Places {
+        source_name,
+        computer_name,
+        sid,
+        strings,
+        event_data,
+        ..
+    } = t.places;
+    let places = [source_name, computer_name, sid, strings, event_data];
+    assert_eq!(places, [56, 68, 76, 88, 94].map(|at| 64 + at));
     assert_eq!(step_back(&log, 168), Ok(t));
     assert_eq!(step_back(&log, 64), Ok(s));
-
-    assert_eq!(string(&log, 64, 0), Ok(OK));
-    assert_eq!(string(&log, 64, 1), Err(Refused::NoString));
-    assert_eq!(string(&log, 0, 0), Err(Refused::NoString));
-    assert_eq!(string(&log, 1, 0), Err(Refused::Length));
-    assert_eq!(string_refusal(&log, 64, 0), None);
-    let none = string_refusal(&log, 64, u32::MAX);
-    assert_eq!(none.map(Refused::number), Some(17));
 }
 
 #[test]
-fn refused() {
+fn strings() {
+    let log = s_t();
+    assert_eq!(string(&log, 64, 0), Ok(Text::new(OK)));
+    assert_eq!(string(&log, 64, 1), Err(Refusal::NoString));
+    assert_eq!(string(&log, 0, 0), Err(Refusal::NoString));
+    assert_eq!(string(&log, 1, 0), Err(Refusal::Length));
+    assert_eq!(string_refusal(&log, 64, 0), None);
+    let none = string_refusal(&log, 64, u32::MAX);
+    assert_eq!(none.map(Refusal::number), Some(17));
+
+    let [s, t] = [0, 64].map(|at| step(&log, at).unwrap());
+    assert!(t.strings().eq(["OK"]) && s.strings().next().is_none());
+    assert_eq!(t.string(0), Ok(Text::new(OK)));
+    for (record, k) in [(t, 1), (t, u32::MAX), (s, 0)] {
+        assert_eq!(record.string(k), Err(Refusal::NoString));
+    }
+}
+
+#[test]
+fn refusals() {
     for (number, why, bytes) in [
-        (1, Refused::Place, vec![]),
-        (1, Refused::Place, S[..63].to_vec()),
-        (2, Refused::Length, put(&S, 0, 60)),
-        (3, Refused::CutShort, T[..103].to_vec()),
-        (4, Refused::Signature, put(&T, 4, 0)),
-        (5, Refused::Length2, put(&T, 100, 100)),
-        (6, Refused::EventType, put(&T, 24, 3)),
-        (6, Refused::EventType, put(&T, 24, 32)),
-        (7, Refused::Flags, put(&T, 31, 0x40)),
-        (8, Refused::StringCount, put(&put(&T, 26, 1), 27, 1)),
-        (9, Refused::Name, put(&S, 56, 1)),
-        (10, Refused::Sid, put(&T, 44, 77)),
-        (11, Refused::Strings, put(&T, 36, 90)),
-        (12, Refused::Data, put(&T, 52, 95)),
-        (13, Refused::Size, put(&T, 48, 2)),
+        (1, Refusal::Place, vec![]),
+        (1, Refusal::Place, S[..63].to_vec()),
+        (2, Refusal::Length, put(&S, 0, 60)),
+        (3, Refusal::CutShort, T[..103].to_vec()),
+        (4, Refusal::Signature, put(&T, 4, 0)),
+        (5, Refusal::Length2, put(&T, 100, 100)),
+        (6, Refusal::EventType, put(&T, 24, 3)),
+        (6, Refusal::EventType, put(&T, 24, 32)),
+        (7, Refusal::Flags, put(&T, 31, 0x40)),
+        (8, Refusal::StringCount, put(&put(&T, 26, 1), 27, 1)),
+        (9, Refusal::Name, put(&S, 56, 1)),
+        (10, Refusal::Sid, put(&T, 44, 77)),
+        (11, Refusal::Strings, put(&T, 36, 90)),
+        (12, Refusal::Data, put(&T, 52, 95)),
+        (13, Refusal::Size, put(&T, 48, 2)),
     ] {
-        let at = 0;
-        assert_eq!(step(&bytes, at), Err(Refusal { why, at }));
-        assert_eq!(refusal(&bytes, at), Some(why));
+        assert_eq!(refused(step(&bytes, 0)), (why, 0));
+        assert_eq!(refusal(&bytes, 0), Some(why));
         assert_eq!(why.number(), number);
     }
     assert_eq!(refusal(&put(&T, 24, 16), 0), None);
     assert_eq!(refusal(&put(&T, 31, 0x80), 0), None);
-    let why = Refused::Place;
     for at in [65, usize::MAX] {
-        assert_eq!(step(&S, at), Err(Refusal { why, at }));
-        assert_eq!(step_back(&S, at), Err(Refusal { why, at }));
+        assert_eq!(refused(step(&S, at)), (Refusal::Place, at));
+        assert_eq!(refused(step_back(&S, at)), (Refusal::Place, at));
     }
 }
 
 #[test]
 fn walked_and_listed() {
     let log = s_t();
-    let whole = Walked {
-        count: 2,
-        refusal: None,
-    };
-    assert_eq!((walk(&log), walk_back(&log)), (whole, whole));
-    assert_eq!(walk(&[]), Walked::default());
-    let cut = Walked {
-        count: 1,
-        refusal: Some(Refused::CutShort),
-    };
-    assert_eq!(walk(&log[..167]), cut);
+    assert_eq!((walk(&log), walk_back(&log)), (Ok(2), Ok(2)));
+    assert_eq!((walk(&[]), walk_back(&[])), (Ok(0), Ok(0)));
+    let stopped = walk(&log[..167]).unwrap_err();
+    assert_eq!((stopped.count, stopped.refusal), (1, Refusal::CutShort));
+    let stopped = walk_back(&log[1..]).unwrap_err();
+    assert_eq!((stopped.count, stopped.refusal), (1, Refusal::Place));
 
     let text = |s: &[u8]| {
         let mut out = vec![b'x'; s.len() + 64];
-        let length = listing(s, &mut out).unwrap();
-        assert!(out[length..].iter().all(|b| *b == b'x'));
-        String::from_utf8(out[..length].to_vec()).unwrap()
+        let text = listing(s, &mut out).unwrap().to_string();
+        assert!(out[text.len()..].iter().all(|b| *b == b'x'));
+        text
     };
     assert_eq!(text(&log), "records 2\n0 64 7\n64 104 8\n");
     assert_eq!(text(&log[..167]), "refused 3 at 64\n");
     assert_eq!(text(&[]), "records 0\n");
-    assert_eq!(listing(&log, &mut [0; 168 + 63]), Err(Refused::Output));
+    assert_eq!(listing(&log, &mut [0; 168 + 63]), Err(Refusal::Output));
+}
+
+#[test]
+fn iterated() {
+    let log = s_t();
+    let [s, t] = [0, 64].map(|at| step(&log, at));
+    assert!(records(&log).eq([s, t]) && records_back(&log).eq([t, s]));
+    assert_eq!(
+        (records(&[]).next(), records_back(&[]).next()),
+        (None, None)
+    );
+
+    // A refusal is the last item, and the place stays where it was refused.
+    let cut = &log[..167];
+    let mut front = records(cut);
+    assert_eq!(front.size_hint(), (1, Some(3)));
+    assert_eq!(front.next(), Some(step(cut, 0)));
+    assert_eq!(front.next().map(refused), Some((Refusal::CutShort, 64)));
+    assert_eq!(
+        (front.next(), front.next(), front.place()),
+        (None, None, 64)
+    );
+    assert_eq!(front.size_hint(), (0, Some(0)));
+
+    let late = &log[1..];
+    let mut rear = records_back(late);
+    assert_eq!((rear.place(), rear.size_hint()), (167, (1, Some(3))));
+    assert_eq!(rear.next(), Some(step(late, 63)));
+    assert_eq!(rear.next().map(refused), Some((Refusal::Place, 63)));
+    assert_eq!((rear.next(), rear.next(), rear.place()), (None, None, 63));
+    assert_eq!(rear.size_hint(), (0, Some(0)));
+}
+
+/// Why there is no iterator with two ends: the first bytes of one record are the
+/// data of another, whose Length2 is the first one's `TimeWritten`. Both are good,
+/// and the bytes are refused.
+#[test]
+fn ends_that_overlap() {
+    let mut rear = [0; 64];
+    let event = Event {
+        time_written: 80,
+        ..Event::default()
+    };
+    assert_eq!(write(2, &event, &mut rear), Ok(64));
+    let mut front = [0; 80];
+    let event = Event {
+        event_data: &rear[..16],
+        ..Event::default()
+    };
+    assert_eq!(write(1, &event, &mut front), Ok(80));
+    let both = [&front[..], &rear[20..]].concat();
+    let first = records(&both).next().unwrap().unwrap();
+    let last = records_back(&both).next().unwrap().unwrap();
+    assert_eq!((first.length, last.start), (80, 60));
+    assert!(walk(&both).is_err() && walk_back(&both).is_err());
 }
 
 #[test]
 fn written_and_appended() {
     let mut out = [0xAA; 110];
-    assert_eq!(write(&t_event(), &mut out), Ok(104));
+    assert_eq!(write(T_NUMBER, &t_event(), &mut out), Ok(104));
     assert_eq!((&out[..104], &out[104..]), (&T[..], &[0xAA; 6][..]));
-    assert_eq!(write(&t_event(), &mut [0; 103]), Err(Refused::Output));
-    assert_eq!(write(&s_event(), &mut []), Err(Refused::Output));
+    let short = write(T_NUMBER, &t_event(), &mut [0; 103]);
+    assert_eq!(short, Err(Refusal::Output));
+    let none = write(S_NUMBER, &Event::default(), &mut []);
+    assert_eq!(none, Err(Refusal::Output));
 
     let mut log = [0; 200];
     log[..64].copy_from_slice(&S);
     assert_eq!(append(&mut log, 64, &t_event()), Ok(168));
     assert_eq!(log[..168], s_t());
-    assert_eq!(append(&mut log, 168, &t_event()), Err(Refused::Output));
-    assert_eq!(append(&mut log, 167, &t_event()), Err(Refused::LogEnd));
-    assert_eq!(append(&mut log, 201, &t_event()), Err(Refused::Place));
-    assert_eq!(append(&mut log, 0, &s_event()), Ok(64));
-    assert_eq!(step(&log, 0).unwrap().fields.record_number, 1);
+    assert_eq!(append(&mut log, 168, &t_event()), Err(Refusal::Output));
+    assert_eq!(append(&mut log, 167, &t_event()), Err(Refusal::LogEnd));
+    assert_eq!(append(&mut log, 201, &t_event()), Err(Refusal::Place));
+    assert_eq!(append(&mut log, 0, &Event::default()), Ok(64));
+    assert_eq!(step(&log, 0).unwrap().record_number, 1);
 }
 
-fn good(bytes: usize, boundary: usize) -> Result<Read, ReadRefusal> {
-    let place = Place::Boundary(boundary);
-    let handle = Handle { place };
-    Ok(Read { bytes, handle })
+/// Every field of an event has its own place, in writing, appending and reading.
+#[test]
+fn every_field() {
+    let event = Event {
+        time_generated: 0x2423_2221,
+        time_written: 0x3433_3231,
+        event_id: 0x4443_4241,
+        event_type: event_type::AUDIT_FAILURE,
+        num_strings: 1,
+        event_category: 0x5251,
+        reserved_flags: XML_FLAG,
+        event_data: &[0xD1, 0xD2, 0xD3],
+        ..t_event()
+    };
+    let mut record = T;
+    record[8..32].copy_from_slice(&[
+        0x11, 0x12, 0x13, 0x14, 0x21, 0x22, 0x23, 0x24, 0x31, 0x32, 0x33, 0x34, 0x41, 0x42, 0x43,
+        0x44, 16, 0, 1, 0, 0x51, 0x52, 0x00, 0x80,
+    ]);
+    record[94..97].copy_from_slice(event.event_data);
+    let mut out = [0; 104];
+    assert_eq!(write(0x1413_1211, &event, &mut out), Ok(104));
+    assert_eq!(out, record);
+    let read = step(&record, 0).unwrap();
+    assert_eq!((read.record_number, read.event), (0x1413_1211, event));
+    record[8..12].copy_from_slice(&[1, 0, 0, 0]);
+    assert_eq!(append(&mut out, 0, &event), Ok(104));
+    assert_eq!(out, record);
 }
 
-fn bad(status: Status, needed: usize, place: Place) -> Result<Read, ReadRefusal> {
-    let handle = Handle { place };
-    Err(ReadRefusal {
-        status,
-        needed,
-        handle,
-    })
+/// A read with these flags, and how much of the output it used.
+fn serve(place: Place, log: &[u8], flags: u32, number: u32, size: usize) -> (Vec<u8>, Served) {
+    let mut out = vec![0xAA; 200];
+    let answer = Handle { place }.read_with_flags(log, flags, number, size, &mut out);
+    let served = match answer {
+        Ok(batch) => Ok((batch.bytes.len(), batch.handle.place)),
+        Err(error) => Err((error.status, error.handle.place)),
+    };
+    (out, served)
 }
+
+type Served = Result<(usize, Place), (Status, Place)>;
 
 #[test]
 fn served() {
+    use Place::{Boundary, Fresh};
     let log = s_t();
-    let mut out = [0xAA; 200];
-    let first = Handle::fresh().read(&log, 5, 0, 64, &mut out);
-    assert_eq!(first, good(64, 64));
+    let (out, first) = serve(Fresh, &log, 5, 0, 64);
+    assert_eq!(first, Ok((64, Boundary(64))));
     assert_eq!((&out[..64], out[64]), (&S[..], 0xAA));
-    let small = first.unwrap().handle.read(&log, 5, 0, 103, &mut out);
-    let boundary = Place::Boundary(64);
-    assert_eq!(small, bad(Status::BufferTooSmall, 104, boundary));
+    let (out, small) = serve(Boundary(64), &log, 5, 0, 103);
+    let needed = 104;
+    assert_eq!(
+        small,
+        Err((Status::BufferTooSmall { needed }, Boundary(64)))
+    );
+    assert_eq!(out, [0xAA; 200]);
 
-    let back = Handle::fresh().read(&log, 9, 0, 168, &mut out);
-    assert_eq!(back, good(168, 0));
+    let (out, back) = serve(Fresh, &log, 9, 0, 168);
+    assert_eq!(back, Ok((168, Boundary(0))));
     assert_eq!(out[..168], [&T[..], &S[..]].concat());
-    let end = back.unwrap().handle.read(&log, 9, 0, 168, &mut out);
-    assert_eq!(end, bad(Status::EndOfFile, 0, Place::Boundary(0)));
+    let (_, end) = serve(Boundary(0), &log, 9, 0, 168);
+    assert_eq!(end, Err((Status::EndOfFile, Boundary(0))));
 
-    let none = Handle::fresh().read(&log, 6, 9, 168, &mut out);
-    assert_eq!(none, bad(Status::InvalidParameter, 0, Place::Fresh));
-    let seek = Handle::fresh().read(&log, 6, 8, 168, &mut out);
-    assert_eq!(seek, good(104, 168));
+    let (_, none) = serve(Fresh, &log, 6, 9, 168);
+    assert_eq!(none, Err((Status::InvalidParameter, Fresh)));
+    let (_, seek) = serve(Fresh, &log, 6, 8, 168);
+    assert_eq!(seek, Ok((104, Boundary(168))));
+}
+
+/// The four good flags as a kind and a direction. The boundary is not where a
+/// seek or a turn would go on from.
+#[test]
+fn kinds_and_directions() {
+    use Direction::{Backwards, Forwards};
+    use ReadKind::{Seek, Sequential};
+    let log = [&s_t()[..], &S, &T].concat();
+    for (flags, kind, direction, boundary) in [
+        (5, Sequential, Forwards, 168 + 64),
+        (9, Sequential, Backwards, 168 - 104),
+        (6, Seek(T_NUMBER), Forwards, 64 + 104),
+        (10, Seek(T_NUMBER), Backwards, 64),
+    ] {
+        let place = Place::Boundary(168);
+        let mut out = [0xAA; 200];
+        let answer = Handle { place }.read(&log, kind, direction, 104, &mut out);
+        let batch = answer.unwrap();
+        assert_eq!(batch.handle.place, Place::Boundary(boundary));
+        let bytes = batch.bytes.len();
+        let with_flags = serve(place, &log, flags, T_NUMBER, 104);
+        assert_eq!(
+            with_flags,
+            (out.to_vec(), Ok((bytes, Place::Boundary(boundary))))
+        );
+    }
 }
 
 #[test]
 fn statuses() {
     use Place::{Boundary, Fresh};
     let broken = put(&s_t(), 68, 0);
-    for (code, status, needed, place, flags) in [
-        (0xC000_0008, Status::InvalidHandle, 0, Boundary(169), 5),
-        (0xC000_000D, Status::InvalidParameter, 0, Boundary(169), 0),
-        (0xC000_0011, Status::EndOfFile, 0, Boundary(0), 9),
-        (0xC000_0023, Status::BufferTooSmall, 64, Fresh, 5),
-        (0xC000_018E, Status::EventlogFileCorrupt, 0, Boundary(64), 5),
+    let small = Status::BufferTooSmall { needed: 64 };
+    for (code, status, place, flags) in [
+        (0xC000_0008, Status::InvalidHandle, Boundary(169), 5),
+        (0xC000_000D, Status::InvalidParameter, Boundary(169), 0),
+        (0xC000_0011, Status::EndOfFile, Boundary(0), 9),
+        (0xC000_0023, small, Fresh, 5),
+        (0xC000_018E, Status::EventlogFileCorrupt, Boundary(64), 5),
     ] {
-        let answer = Handle { place }.read(&broken, flags, 0, 0, &mut []);
-        assert_eq!(answer, bad(status, needed, place));
+        let (out, answer) = serve(place, &broken, flags, 0, 0);
+        assert_eq!(answer, Err((status, place)));
+        assert_eq!(out, [0xAA; 200]);
         assert_eq!(status.code(), code);
     }
 }
@@ -178,62 +328,68 @@ fn statuses() {
 
 #[test]
 fn types_and_flags() {
-    assert_eq!(refusal(&put(&T, 24, 32), 0), Some(Refused::EventType));
+    assert_eq!(refusal(&put(&T, 24, 32), 0), Some(Refusal::EventType));
     assert_eq!(refusal(&put(&T, 24, 16), 0), None);
-    assert_eq!(refusal(&put(&S, 0, 60), 0), Some(Refused::Length));
+    assert_eq!(refusal(&put(&S, 0, 60), 0), Some(Refusal::Length));
     assert_eq!(refusal(&put(&T, 31, 0x80), 0), None);
-    assert_eq!(refusal(&put(&T, 31, 0x40), 0), Some(Refused::Flags));
+    assert_eq!(refusal(&put(&T, 31, 0x40), 0), Some(Refusal::Flags));
 }
 
 #[test]
 fn most_strings() {
     let strings = [0; 2 * 257];
-    let with_strings = |count: u16, record: &mut [u8]| {
-        let mut event = s_event();
-        event.fields.num_strings = count;
-        event.strings = &strings[..2 * usize::from(count)];
-        write(&event, record)
+    let with_strings = |num_strings: u16, record: &mut [u8]| {
+        let event = Event {
+            num_strings,
+            strings: &strings[..2 * usize::from(num_strings)],
+            ..Event::default()
+        };
+        write(S_NUMBER, &event, record)
     };
     let mut record = [0; 64 + 2 * 256];
     assert_eq!(with_strings(256, &mut record), Ok(record.len()));
     assert_eq!(refusal(&record, 0), None);
-    assert_eq!(with_strings(257, &mut [0; 1000]), Err(Refused::StringCount));
-    assert_eq!(refusal(&put(&record, 26, 1), 0), Some(Refused::StringCount));
+    assert_eq!(step(&record, 0).unwrap().strings().count(), 256);
+    let one_more = with_strings(257, &mut [0; 1000]);
+    assert_eq!(one_more, Err(Refusal::StringCount));
+    assert_eq!(refusal(&put(&record, 26, 1), 0), Some(Refusal::StringCount));
 }
 
 #[test]
 fn longest_record() {
-    let name = [b'x', 0].repeat(2016);
+    let (name, data) = ([b'x', 0].repeat(2016), vec![0; 61_440]);
     let of_length = |units: usize, record: &mut [u8]| {
-        let mut event = s_event();
-        event.source_name = &name[..2 * units];
-        event.event_data = &[0; 61_440];
-        write(&event, record)
+        let event = Event {
+            source_name: Text::new(&name[..2 * units]),
+            event_data: &data,
+            ..Event::default()
+        };
+        write(S_NUMBER, &event, record)
     };
     let mut record = vec![0; 65_536];
     assert_eq!(of_length(2014, &mut record), Ok(65_532));
     assert_eq!(refusal(&record, 0), None);
-    assert_eq!(of_length(2016, &mut record), Err(Refused::Length));
+    assert_eq!(of_length(2016, &mut record), Err(Refusal::Length));
     record[..4].copy_from_slice(&65_536u32.to_le_bytes());
     record[65_532..].copy_from_slice(&65_536u32.to_le_bytes());
-    assert_eq!(refusal(&record, 0), Some(Refused::Length));
+    assert_eq!(refusal(&record, 0), Some(Refusal::Length));
 }
 
 #[test]
 fn sizes_and_seeks() {
+    use Place::{Boundary, Fresh};
     let log = s_t();
-    let mut out = [0xAA; 168];
-    let newest = Handle::fresh().read(&log, 9, 0, 167, &mut out);
-    assert_eq!(newest, good(104, 64));
-    assert_eq!((&out[..104], &out[104..]), (&T[..], &[0xAA; 64][..]));
+    let (out, newest) = serve(Fresh, &log, 9, 0, 167);
+    assert_eq!(newest, Ok((104, Boundary(64))));
+    assert_eq!((&out[..104], &out[104..]), (&T[..], &[0xAA; 96][..]));
     for flags in [6, 10] {
-        let none = Handle::fresh().read(&log, flags, 9, 168, &mut out);
-        assert_eq!(none, bad(Status::InvalidParameter, 0, Place::Fresh));
+        let (_, none) = serve(Fresh, &log, flags, 9, 168);
+        assert_eq!(none, Err((Status::InvalidParameter, Fresh)));
     }
     for (flags, needed) in [(5, 64), (9, 104)] {
-        let nothing = Handle::fresh().read(&log, flags, 0, 0, &mut []);
-        assert_eq!(nothing, bad(Status::BufferTooSmall, needed, Place::Fresh));
-        let end = Handle::fresh().read(&[], flags, 0, 0, &mut []);
-        assert_eq!(end, bad(Status::EndOfFile, 0, Place::Fresh));
+        let (_, nothing) = serve(Fresh, &log, flags, 0, 0);
+        assert_eq!(nothing, Err((Status::BufferTooSmall { needed }, Fresh)));
+        let (_, end) = serve(Fresh, &[], flags, 0, 0);
+        assert_eq!(end, Err((Status::EndOfFile, Fresh)));
     }
 }

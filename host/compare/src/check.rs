@@ -3,12 +3,16 @@
 use std::collections::HashSet;
 use std::fmt::{Debug, Write};
 use std::hash::{DefaultHasher, Hasher};
+use std::io::{ErrorKind, Write as _};
+use std::ops::RangeInclusive;
+use std::path::Path;
+use std::process::{Command, Output, Stdio};
 
-use eventlog::Refused;
+use eventlog::{Direction, ReadKind, Refusal, Text};
 
 use crate::make::Made;
 
-/// The calls that refuse.
+/// The calls that refuse, and the listing program.
 #[derive(Clone, Copy, Debug, PartialEq, Eq)]
 pub enum Call {
     Step,
@@ -19,16 +23,18 @@ pub enum Call {
     Write,
     Append,
     Listing,
+    Program,
 }
 
-pub const CALLS: usize = Call::Listing as usize + 1;
+pub const CALLS: usize = Call::Program as usize + 1;
 
 /// The calls that judge a buffer, at one place or as a whole.
 const JUDGES: [Call; 4] = [Call::Step, Call::StepBack, Call::Walk, Call::WalkBack];
 
 /// What has to occur beside every refusal and status. Far is a place past
-/// 65,536, long a batch of more bytes than that, large a record of at least
-/// half of them.
+/// 65,536, long a batch of more bytes than that, full one of 65,000 to 65,536,
+/// large a record of at least half of them, a long read one of more than 500,000
+/// bytes.
 #[derive(Clone, Copy, Debug, PartialEq, Eq)]
 pub enum Case {
     /// A record read at a far place.
@@ -43,6 +49,24 @@ pub enum Case {
     LongListing,
     /// A long batch listed as refused.
     LongListingRefused,
+    /// A full batch listed.
+    FullListing,
+    /// A full batch listed as refused.
+    FullListingRefused,
+    /// A full batch and an output that is one byte short.
+    FullListingShort,
+    /// The program lists a full batch.
+    FullProgram,
+    /// The program refuses a record of a full batch.
+    FullProgramRefused,
+    /// The program gets no byte.
+    EmptyProgram,
+    /// A long read forwards.
+    LongRead,
+    /// A long read backwards.
+    LongReadBack,
+    /// A read of 524,284 bytes, the most there can be.
+    LargestRead,
     /// A large record appended, with room to spare.
     LargeAppend,
     /// A large record appended, with exactly as much room as it takes.
@@ -53,13 +77,22 @@ pub enum Case {
     WrappedNumber,
 }
 
-pub const CASES: [Case; 10] = [
+pub const CASES: [Case; 19] = [
     Case::FarRecord,
     Case::FarRecordBack,
     Case::FarString,
     Case::FarAppend,
     Case::LongListing,
     Case::LongListingRefused,
+    Case::FullListing,
+    Case::FullListingRefused,
+    Case::FullListingShort,
+    Case::FullProgram,
+    Case::FullProgramRefused,
+    Case::EmptyProgram,
+    Case::LongRead,
+    Case::LongReadBack,
+    Case::LargestRead,
     Case::LargeAppend,
     Case::LargeAppendExact,
     Case::LargeAppendRefused,
@@ -70,6 +103,13 @@ pub const CASES: [Case; 10] = [
 const FAR: usize = 65_536;
 /// Where large begins.
 const LARGE: usize = FAR / 2;
+/// How long a full batch is.
+const FULL: RangeInclusive<usize> = 65_000..=FAR;
+/// Where a long read begins.
+const LONG_READ: usize = 500_001;
+/// The most that records can have within the largest size: Lengths are multiples
+/// of 4.
+pub const LARGEST_READ: usize = plain::MAX_READ / 4 * 4;
 
 /// The six statuses.
 pub const STATUSES: [u32; 6] = [
@@ -129,15 +169,15 @@ impl Tally {
 /// Where a part lies: the place told, where the slice itself lies in the
 /// buffer, and its length. The same place and length are the same bytes.
 #[derive(Debug, PartialEq, Eq)]
-struct Lies {
+struct Location {
     told: usize,
     at: usize,
     len: usize,
 }
 
-fn lies(s: &[u8], part: &[u8], told: usize) -> Lies {
+fn location(s: &[u8], part: &[u8], told: usize) -> Location {
     let at = (part.as_ptr() as usize).wrapping_sub(s.as_ptr() as usize);
-    Lies {
+    Location {
         told,
         at,
         len: part.len(),
@@ -150,35 +190,36 @@ struct Seen {
     start: usize,
     length: usize,
     fields: plain::Fields,
-    source_name: Lies,
-    computer_name: Lies,
-    sid: Lies,
-    strings: Lies,
-    event_data: Lies,
+    source_name: Location,
+    computer_name: Location,
+    sid: Location,
+    strings: Location,
+    event_data: Location,
 }
 
 type Answered = Result<Seen, (u32, usize)>;
 
-fn seen_proved(s: &[u8], answer: Result<eventlog::Record, eventlog::Refusal>) -> Answered {
-    let r = answer.map_err(|r| (r.why.number(), r.at))?;
+fn seen_proved(s: &[u8], answer: Result<eventlog::Record, eventlog::BadRecord>) -> Answered {
+    let r = answer.map_err(|r| (r.refusal.number(), r.at))?;
+    let (event, places) = (r.event, r.places);
     Ok(Seen {
         start: r.start,
         length: r.length,
         fields: plain::Fields {
-            record_number: r.fields.record_number,
-            time_generated: r.fields.time_generated,
-            time_written: r.fields.time_written,
-            event_id: r.fields.event_id,
-            event_type: r.fields.event_type,
-            num_strings: r.fields.num_strings,
-            event_category: r.fields.event_category,
-            reserved_flags: r.fields.reserved_flags,
+            record_number: r.record_number,
+            time_generated: event.time_generated,
+            time_written: event.time_written,
+            event_id: event.event_id,
+            event_type: event.event_type,
+            num_strings: event.num_strings,
+            event_category: event.event_category,
+            reserved_flags: event.reserved_flags,
         },
-        source_name: lies(s, r.source_name, r.source_name_at),
-        computer_name: lies(s, r.computer_name, r.computer_name_at),
-        sid: lies(s, r.sid, r.sid_at),
-        strings: lies(s, r.strings, r.strings_at),
-        event_data: lies(s, r.event_data, r.event_data_at),
+        source_name: location(s, event.source_name.as_bytes(), places.source_name),
+        computer_name: location(s, event.computer_name.as_bytes(), places.computer_name),
+        sid: location(s, event.sid, places.sid),
+        strings: location(s, event.strings, places.strings),
+        event_data: location(s, event.event_data, places.event_data),
     })
 }
 
@@ -188,16 +229,16 @@ fn seen_plain(s: &[u8], answer: Result<plain::Record, plain::Refusal>) -> Answer
         start: r.start,
         length: r.length,
         fields: r.fields,
-        source_name: lies(s, r.source_name, r.source_name_at),
-        computer_name: lies(s, r.computer_name, r.computer_name_at),
-        sid: lies(s, r.sid, r.sid_at),
-        strings: lies(s, r.strings, r.strings_at),
-        event_data: lies(s, r.event_data, r.event_data_at),
+        source_name: location(s, r.source_name, r.source_name_at),
+        computer_name: location(s, r.computer_name, r.computer_name_at),
+        sid: location(s, r.sid, r.sid_at),
+        strings: location(s, r.strings, r.strings_at),
+        event_data: location(s, r.event_data, r.event_data_at),
     })
 }
 
 /// A handle of both libraries.
-#[derive(Clone, Copy, Debug)]
+#[derive(Debug)]
 pub struct Handles {
     pub proved: eventlog::Handle,
     pub plain: plain::Handle,
@@ -223,31 +264,45 @@ impl Handles {
     }
 }
 
-type Served = Result<eventlog::Read, eventlog::ReadRefusal>;
-
-/// The proved read's answer and its handle. What a `Read` or a `ReadRefusal`
-/// leaves out is 0, which the binding's own tests see to.
-fn read_proved(answer: Served) -> (plain::Answer, eventlog::Handle) {
+/// The proved read's answer. What a `Batch` or a `ReadError` leaves out is 0,
+/// which the binding's own tests see to.
+fn read_proved(answer: Result<eventlog::Batch, eventlog::ReadError>) -> plain::Answer {
     let (status, read, needed, handle) = match answer {
-        Ok(r) => (0, r.bytes, 0, r.handle),
-        Err(r) => (r.status.code(), 0, r.needed, r.handle),
+        Ok(batch) => (0, batch.bytes.len(), 0, batch.handle),
+        Err(error) => {
+            let needed = match error.status {
+                eventlog::Status::BufferTooSmall { needed } => needed,
+                _ => 0,
+            };
+            (error.status.code(), 0, needed, error.handle)
+        }
     };
     let place = match handle.place {
         eventlog::Place::Fresh => plain::Place::Fresh,
         eventlog::Place::Boundary(at) => plain::Place::Boundary(at),
     };
-    let seen = plain::Answer {
+    plain::Answer {
         status,
         read,
         needed,
         handle: plain::Handle { place },
-    };
-    (seen, handle)
+    }
+}
+
+/// The four good flags as the proved library has them.
+fn kind_and_direction(flags: u32, number: u32) -> Option<(ReadKind, Direction)> {
+    match flags {
+        5 => Some((ReadKind::Sequential, Direction::Forwards)),
+        9 => Some((ReadKind::Sequential, Direction::Backwards)),
+        6 => Some((ReadKind::Seek(number), Direction::Forwards)),
+        10 => Some((ReadKind::Seek(number), Direction::Backwards)),
+        _ => None,
+    }
 }
 
 /// The number of what may be refused, 0 for none.
-fn number_of(refused: Option<Refused>) -> u32 {
-    refused.map_or(0, Refused::number)
+fn number_of(refusal: Option<Refusal>) -> u32 {
+    refusal.map_or(0, Refusal::number)
 }
 
 /// A read request.
@@ -348,12 +403,12 @@ impl Check {
     pub fn string(&mut self, s: &[u8], at: usize, k: u32) {
         let number = plain::string_refusal(s, at, k);
         let plain = match number {
-            0 => Ok(lies(s, plain::string(s, at, k), 0)),
+            0 => Ok(location(s, plain::string(s, at, k), 0)),
             number => Err(number),
         };
         let proved = match eventlog::string(s, at, k) {
-            Ok(string) => Ok(lies(s, string, 0)),
-            Err(why) => Err(why.number()),
+            Ok(string) => Ok(location(s, string.as_bytes(), 0)),
+            Err(refusal) => Err(refusal.number()),
         };
         let told = number_of(eventlog::string_refusal(s, at, k));
         if proved != plain || told != number {
@@ -391,8 +446,10 @@ impl Check {
 
     /// Both walks.
     pub fn walks(&mut self, s: &[u8]) {
-        let proved =
-            [eventlog::walk(s), eventlog::walk_back(s)].map(|w| (w.count, number_of(w.refusal)));
+        let proved = [eventlog::walk(s), eventlog::walk_back(s)].map(|walk| match walk {
+            Ok(count) => (count, 0),
+            Err(stopped) => (stopped.count, stopped.refusal.number()),
+        });
         let plain = [plain::walk(s), plain::walk_back(s)].map(|w| (w.count, w.refusal));
         if proved != plain {
             self.differ("walk, walk_back", &[s], &proved, &plain);
@@ -402,12 +459,64 @@ impl Check {
         self.count(Call::WalkBack, plain[1].1);
     }
 
+    /// The proved library's records from the front and from the rear, up to the
+    /// refusal where there is one, and the strings of each, against plain steps.
+    pub fn records(&mut self, s: &[u8]) {
+        let (mut at, mut end) = (0, s.len());
+        let (mut front, mut rear) = (Vec::new(), Vec::new());
+        while at < s.len() {
+            front.push(seen_plain(s, plain::step(s, at)));
+            at += plain::judge(s, at).unwrap_or(s.len());
+        }
+        while end > 0 {
+            rear.push(seen_plain(s, plain::step_back(s, end)));
+            end -= plain::judge_back(s, end).unwrap_or(end);
+        }
+        let proved: [Vec<Answered>; 2] = [
+            eventlog::records(s).map(|r| seen_proved(s, r)).collect(),
+            eventlog::records_back(s)
+                .map(|r| seen_proved(s, r))
+                .collect(),
+        ];
+        let plain = [front, rear];
+        if proved != plain {
+            self.differ("records, records_back", &[s], &proved, &plain);
+        }
+        for record in eventlog::records(s).flatten() {
+            self.strings(s, &record);
+        }
+        self.tally.calls += 2;
+    }
+
+    /// All strings of a record, one after another and by number, and none more.
+    fn strings(&mut self, s: &[u8], record: &eventlog::Record) {
+        let mut strings = record.strings();
+        for k in 0..=u32::from(record.event.num_strings) {
+            let next = strings.next().map(Text::as_bytes);
+            let numbered = record.string(k).ok().map(Text::as_bytes);
+            let plain = match plain::string_refusal(s, record.start, k) {
+                0 => Some(plain::string(s, record.start, k)),
+                _ => None,
+            };
+            if (next, numbered) != (plain, plain) {
+                let call = format!("string {k} of the record at {}", record.start);
+                self.differ(&call, &[s], &(next, numbered), &plain);
+            }
+        }
+        self.tally.calls += 2;
+    }
+
     /// A whole buffer: steps and strings at its ends, both walks, the parts by
     /// place, the listing.
     pub fn buffer(&mut self, s: &[u8]) {
         let strings = self.step(s, 0);
-        for k in [0, 1, 2, 255, 256, 257, u32::MAX] {
-            self.string(s, 0, k);
+        // A long record takes long to judge, which each ask does.
+        let numbers = match s.len() {
+            LARGE.. => &[0, u32::MAX][..],
+            _ => &[0, 1, 2, 255, 256, 257, u32::MAX],
+        };
+        for k in numbers {
+            self.string(s, 0, *k);
         }
         if let Some(n @ 1..) = strings {
             self.string(s, 0, n / 2);
@@ -429,7 +538,8 @@ impl Check {
             plain::event_data(s, at),
         ];
         let proved = eventlog::step(s, at).map_or([&[][..]; 4], |r| {
-            [r.source_name, r.computer_name, r.sid, r.event_data]
+            let names = [r.event.source_name, r.event.computer_name].map(Text::as_bytes);
+            [names[0], names[1], r.event.sid, r.event.event_data]
         });
         if proved != plain {
             self.differ(&format!("parts at {at}"), &[s], &proved, &plain);
@@ -469,8 +579,13 @@ impl Check {
     /// The listing into an output of a length.
     pub fn listing(&mut self, s: &[u8], out_len: usize) {
         let mut out = self.outputs(out_len);
-        let proved = eventlog::listing(s, &mut out[0]).map_err(Refused::number);
+        let proved = match eventlog::listing(s, &mut out[0]) {
+            Ok(text) => Ok(text.len()),
+            Err(refusal) => Err(refusal.number()),
+        };
+        let full = FULL.contains(&s.len());
         let plain = if out_len < s.len() + 64 {
+            self.count_case(Case::FullListingShort, full && out_len + 1 == s.len() + 64);
             Err(15)
         } else {
             let text = listing_text(s);
@@ -478,6 +593,8 @@ impl Check {
             let (long, records) = (s.len() > FAR, text.starts_with("records"));
             self.count_case(Case::LongListing, long && records);
             self.count_case(Case::LongListingRefused, long && !records);
+            self.count_case(Case::FullListing, full && records);
+            self.count_case(Case::FullListingRefused, full && !records);
             Ok(text.len())
         };
         let call = format!("listing into {out_len}");
@@ -488,10 +605,34 @@ impl Check {
         self.count(Call::Listing, plain.err().unwrap_or(0));
     }
 
+    /// The built listing program, which gets the batch in two pieces. It exits
+    /// with success and says nothing on standard error.
+    pub fn program(&mut self, s: &[u8], piece: usize) {
+        let answer = run_program(s, piece);
+        let proved = (
+            answer.status.code(),
+            String::from_utf8_lossy(&answer.stdout).into_owned(),
+            String::from_utf8_lossy(&answer.stderr).into_owned(),
+        );
+        let text = plain::listing(s);
+        let number = listed_refusal(&text);
+        let plain = (Some(0), text, String::new());
+        if proved != plain {
+            self.differ("the program list", &[s], &proved, &plain);
+        }
+        let full = FULL.contains(&s.len());
+        self.count_case(Case::FullProgram, full && number == 0);
+        self.count_case(Case::FullProgramRefused, full && number != 0);
+        self.count_case(Case::EmptyProgram, s.is_empty());
+        self.count(Call::Program, number);
+    }
+
     /// Writing an event into an output of a length.
     pub fn write(&mut self, event: &Made, out_len: usize) {
         let mut out = self.outputs(out_len);
-        let proved = eventlog::write(&event.proved(), &mut out[0]).map_err(Refused::number);
+        let number = event.fields.record_number;
+        let proved = eventlog::write(number, &event.proved(), &mut out[0]);
+        let proved = proved.map_err(Refusal::number);
         let plain = plain::write(&event.plain(), &mut out[1]);
         let call = format!("write into {out_len} of {:?}", event.fields);
         let inputs = parts_of(event);
@@ -515,7 +656,7 @@ impl Check {
     pub fn append(&mut self, log: &mut Vec<u8>, used: usize, event: &Made) -> Option<usize> {
         let mut other = log.clone();
         let old = log.clone();
-        let proved = eventlog::append(log, used, &event.proved()).map_err(Refused::number);
+        let proved = eventlog::append(log, used, &event.proved()).map_err(Refusal::number);
         let plain = plain::append(&mut other, used, &event.plain());
         let call = format!("append behind {used} of {:?}", event.fields);
         let parts = parts_of(event);
@@ -559,10 +700,20 @@ impl Check {
             out,
         } = request;
         let mut out = self.outputs(out);
-        let answer = handles.proved.read(log, flags, number, size, &mut out[0]);
-        let plain = handles.plain.read(log, flags, number, size, &mut out[1]);
-        let (seen, proved) = read_proved(answer);
-        let call = || format!("read with {handles:?}, {request:?}");
+        let given = handles.plain;
+        let answer = match kind_and_direction(flags, number) {
+            Some((kind, direction)) => {
+                let handle = handles.proved;
+                handle.read(log, kind, direction, size, &mut out[0])
+            }
+            None => {
+                let handle = handles.proved;
+                handle.read_with_flags(log, flags, number, size, &mut out[0])
+            }
+        };
+        let seen = read_proved(answer);
+        let plain = given.read(log, flags, number, size, &mut out[1]);
+        let call = || format!("read with {given:?}, {request:?}");
         if seen != plain {
             self.differ(&call(), &[log], &seen, &plain);
         }
@@ -573,14 +724,20 @@ impl Check {
             self.out = out;
         }
         self.tally.calls += 1;
+        self.count_case(Case::LongRead, plain.read >= LONG_READ && flags & 4 != 0);
+        self.count_case(
+            Case::LongReadBack,
+            plain.read >= LONG_READ && flags & 8 != 0,
+        );
+        self.count_case(Case::LargestRead, plain.read == LARGEST_READ);
         let kind = FLAGS.iter().position(|f| *f == flags).unwrap_or(4);
         match STATUSES.iter().position(|s| *s == plain.status) {
             Some(status) => self.tally.statuses[kind][status] += 1,
             None => self.differ(&call(), &[log], &seen, &"no such status"),
         }
-        Handles {
-            proved,
-            plain: plain.handle,
+        match plain.handle.place {
+            plain::Place::Fresh => Handles::fresh(),
+            plain::Place::Boundary(at) => Handles::boundary(at),
         }
     }
 }
@@ -593,6 +750,39 @@ fn parts_of(event: &Made) -> [&[u8]; 5] {
         &event.strings,
         &event.data,
     ]
+}
+
+/// What the program `list` writes for a batch on its standard input.
+fn run_program(s: &[u8], piece: usize) -> Output {
+    let path = Path::new(env!("CARGO_MANIFEST_DIR")).join("../../target/bin/list");
+    let mut program = Command::new(&path)
+        .stdin(Stdio::piped())
+        .stdout(Stdio::piped())
+        .stderr(Stdio::piped())
+        .spawn()
+        .unwrap_or_else(|e| panic!("{}: {e}: run `rt check list` first", path.display()));
+    let mut input = program.stdin.take().expect("standard input is a pipe");
+    let (first, second) = s.split_at(piece.min(s.len()));
+    for bytes in [first, second] {
+        match input.write_all(bytes) {
+            // The program does not read on where there are too many bytes.
+            Err(e) if e.kind() == ErrorKind::BrokenPipe && s.len() > FAR => {}
+            answer => answer.expect("the program reads its input"),
+        }
+    }
+    drop(input);
+    program.wait_with_output().expect("the program ends")
+}
+
+/// The refusal that a listing tells, 0 for none.
+fn listed_refusal(text: &str) -> u32 {
+    match text.strip_prefix("refused ") {
+        Some(rest) => {
+            let number = rest.split(' ').next().unwrap_or_default();
+            number.parse().expect("a listing tells a refusal's number")
+        }
+        None => 0,
+    }
 }
 
 /// The plain listing. Its limit of 65,536 bytes is the listing program's, not

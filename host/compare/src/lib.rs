@@ -15,7 +15,7 @@ use random::Random;
 pub type Family = (&'static str, fn(&mut Random, &mut Check));
 
 /// All kinds of inputs, those with short ones first.
-pub const FAMILIES: [Family; 9] = [
+pub const FAMILIES: [Family; 10] = [
     ("fields", fields),
     ("bytes", bytes),
     ("cuts", cuts),
@@ -25,6 +25,7 @@ pub const FAMILIES: [Family; 9] = [
     ("reads", reads),
     ("writes", writes),
     ("limits", limits),
+    ("listings", listings),
 ];
 
 /// One round of a family.
@@ -161,6 +162,7 @@ fn logs(rng: &mut Random, check: &mut Check) {
 /// A log as a batch, at its places and others, and a piece of it.
 fn whole_log(rng: &mut Random, check: &mut Check, log: &[u8], places: &[usize]) {
     check.buffer(log);
+    check.records(log);
     let less = rng.below(100);
     check.listing(log, (log.len() + 64).saturating_sub(less));
     for &at in places {
@@ -368,6 +370,91 @@ fn reads(rng: &mut Random, check: &mut Check) {
             handles = check.read(handles, &log, request);
         }
     }
+    if rng.once_in(5) {
+        long_reads(rng, check);
+    }
+}
+
+/// Reads of about the largest size, of records that fill it exactly and stand
+/// between others.
+fn long_reads(rng: &mut Random, check: &mut Check) {
+    let (before, _) = make::log(rng, 3, Size::Small, false);
+    let block = make::records_of(rng, check::LARGEST_READ);
+    let (after, _) = make::log(rng, 3, Size::Medium, false);
+    let log = [&before[..], &block, &after].concat();
+    let (start, end) = (before.len(), before.len() + block.len());
+    let first = make::get(&log, start + 8, 4);
+    let most = plain::MAX_READ;
+    for size in [most, most - 1, block.len(), block.len() - 1, most + 1] {
+        let out = size + rng.below(3);
+        for (handles, flags) in [
+            (Handles::boundary(start), 5),
+            (Handles::boundary(end), 9),
+            (Handles::fresh(), rng.pick(&check::FLAGS)),
+        ] {
+            let request = Request {
+                flags,
+                number: first,
+                size,
+                out,
+            };
+            check.read(handles, &log, request);
+        }
+    }
+}
+
+/// Batches around the listing program's limit, short ones and none, listed by
+/// the call and by the built program.
+fn listings(rng: &mut Random, check: &mut Check) {
+    let length = match rng.below(8) {
+        0 => FULL_BATCH,
+        1 => FULL_BATCH + 4 * rng.range(1, 500),
+        _ => FULL_BATCH - 4 * rng.below(130),
+    };
+    let mut batch = make::records_of(rng, length);
+    listed(rng, check, &batch);
+    damage_record(rng, &mut batch);
+    listed(rng, check, &batch);
+    let extra = rng.below(3);
+    batch.extend(rng.bytes(extra));
+    listed(rng, check, &batch);
+    let (count, broken) = (rng.below(5), rng.once_in(2));
+    let (mut log, _) = make::log(rng, count, Size::Small, broken);
+    if rng.once_in(2) {
+        damage_record(rng, &mut log);
+    }
+    listed(rng, check, &log);
+}
+
+/// What the listing program takes at most.
+const FULL_BATCH: usize = plain::MAX_LISTED;
+
+fn listed(rng: &mut Random, check: &mut Check, batch: &[u8]) {
+    check.listing(batch, batch.len() + 64);
+    check.listing(batch, batch.len() + 63);
+    let piece = rng.below(batch.len() + 1);
+    check.program(batch, piece);
+}
+
+/// Changes a field of one of the records, or any bytes.
+fn damage_record(rng: &mut Random, batch: &mut Vec<u8>) {
+    let places = make::starts(batch);
+    if places.is_empty() || rng.once_in(4) {
+        return make::damage(rng, batch);
+    }
+    let start = rng.pick(&places);
+    let length = make::get(batch, start, 4);
+    match rng.below(8) {
+        // No zero unit from the names on.
+        0 => return batch[start + 56..start + length as usize - 4].fill(1),
+        // The data is absent, but there is room for it.
+        1 => return make::put(batch, start + 48, 4, 0),
+        _ => {}
+    }
+    let (at, size) = rng.pick(&FIELDS);
+    let old = make::get(batch, start + at, size);
+    let value = rng.pick(&make::boundary_values(old, length));
+    make::put(batch, start + at, size, value);
 }
 
 fn any_handles(rng: &mut Random, log: &[u8], places: &[usize]) -> Handles {

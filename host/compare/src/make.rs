@@ -82,28 +82,28 @@ fn sid(rng: &mut Random) -> Vec<u8> {
     sid
 }
 
-fn spoilt_sid(rng: &mut Random) -> Vec<u8> {
-    let mut spoilt = sid(rng);
+fn corrupt_sid(rng: &mut Random) -> Vec<u8> {
+    let mut corrupt = sid(rng);
     match rng.below(4) {
         0 => {
             let len = rng.range(0, 80);
-            spoilt = rng.bytes(len);
+            corrupt = rng.bytes(len);
         }
         1 => {
             let at = rng.below(2);
-            spoilt[at] = rng.pick(&[0, 1, 2, 14, 15, 16, 255]);
+            corrupt[at] = rng.pick(&[0, 1, 2, 14, 15, 16, 255]);
         }
         2 => {
-            let len = spoilt.len() + rng.range(0, 8);
-            spoilt.resize(len - rng.below(len.min(9)), 0);
+            let len = corrupt.len() + rng.range(0, 8);
+            corrupt.resize(len - rng.below(len.min(9)), 0);
         }
         _ => {
             // Sixteen sub-authorities: one too many.
-            spoilt = rng.bytes(72);
-            spoilt[..2].copy_from_slice(&[1, 16]);
+            corrupt = rng.bytes(72);
+            corrupt[..2].copy_from_slice(&[1, 16]);
         }
     }
-    spoilt
+    corrupt
 }
 
 fn number(rng: &mut Random) -> u32 {
@@ -221,12 +221,12 @@ impl Made {
     pub fn bad(rng: &mut Random, size: Size) -> Made {
         let mut made = Made::good(rng, size);
         for _ in 0..rng.range(1, 3) {
-            made.spoil(rng);
+            made.corrupt(rng);
         }
         made
     }
 
-    fn spoil(&mut self, rng: &mut Random) {
+    fn corrupt(&mut self, rng: &mut Random) {
         let f = &mut self.fields;
         match rng.below(16) {
             0 => {
@@ -239,11 +239,11 @@ impl Made {
             1 => f.reserved_flags = 1 << rng.below(16) | rng.pick(&[0, 0x8000]),
             2 => f.num_strings = rng.pick(&[0, 1, 255, 256, 257, 258, 0x8000, 0xFFFF]),
             3 => f.num_strings = f.num_strings.wrapping_add(rng.pick(&[1, 0xFFFF])),
-            4 => spoil_text(rng, &mut self.source),
-            5 => spoil_text(rng, &mut self.computer),
-            6 => spoil_text(rng, &mut self.strings),
+            4 => corrupt_text(rng, &mut self.source),
+            5 => corrupt_text(rng, &mut self.computer),
+            6 => corrupt_text(rng, &mut self.strings),
             7 => self.strings.extend([0, 0]),
-            8..=11 => self.sid = spoilt_sid(rng),
+            8..=11 => self.sid = corrupt_sid(rng),
             12 => {
                 let len = rng.pick(&[MAX_DATA, MAX_DATA + 1, MAX_DATA + 2, 65_536, 70_000]);
                 self.data.resize(len, 7);
@@ -271,21 +271,19 @@ impl Made {
         }
     }
 
+    /// The event for the proved library, which takes the number by itself.
     pub fn proved(&self) -> eventlog::Event<'_> {
         let f = self.fields;
         eventlog::Event {
-            fields: eventlog::Fields {
-                record_number: f.record_number,
-                time_generated: f.time_generated,
-                time_written: f.time_written,
-                event_id: f.event_id,
-                event_type: f.event_type,
-                num_strings: f.num_strings,
-                event_category: f.event_category,
-                reserved_flags: f.reserved_flags,
-            },
-            source_name: &self.source,
-            computer_name: &self.computer,
+            time_generated: f.time_generated,
+            time_written: f.time_written,
+            event_id: f.event_id,
+            event_type: f.event_type,
+            num_strings: f.num_strings,
+            event_category: f.event_category,
+            reserved_flags: f.reserved_flags,
+            source_name: eventlog::Text::new(&self.source),
+            computer_name: eventlog::Text::new(&self.computer),
             sid: &self.sid,
             strings: &self.strings,
             event_data: &self.data,
@@ -362,7 +360,7 @@ impl Made {
     }
 }
 
-fn spoil_text(rng: &mut Random, bytes: &mut Vec<u8>) {
+fn corrupt_text(rng: &mut Random, bytes: &mut Vec<u8>) {
     match rng.below(4) {
         0 => bytes.push(rng.bits() as u8),
         1 => {
@@ -528,6 +526,43 @@ pub fn log(rng: &mut Random, count: usize, size: Size, broken: bool) -> (Vec<u8>
         places.push(bytes.len());
     }
     (bytes, places)
+}
+
+/// Good records that have exactly so many bytes together, a multiple of 4 and at
+/// least 1,024.
+pub fn records_of(rng: &mut Random, len: usize) -> Vec<u8> {
+    let mut bytes = Vec::with_capacity(len);
+    // The last two share the rest, so that neither is too short or too long.
+    while len - bytes.len() > 2 * MAX_LENGTH {
+        bytes.extend(record(rng, Size::Large));
+    }
+    while len - bytes.len() > 4096 {
+        let size = rng.pick(&[Size::Small, Size::Medium]);
+        let next = record(rng, size);
+        if len - bytes.len() < next.len() + 1024 || rng.once_in(40) {
+            break;
+        }
+        bytes.extend(next);
+    }
+    let half = (len - bytes.len()) / 8 * 4;
+    for length in [half, len - bytes.len() - half] {
+        let mut made = Made::good(rng, Size::Small);
+        made.fit(rng, length);
+        bytes.extend(made.encode(Some(rng)));
+    }
+    assert_eq!(bytes.len(), len);
+    bytes
+}
+
+/// Where the good records of a batch start, from the front.
+pub fn starts(batch: &[u8]) -> Vec<usize> {
+    let mut starts = Vec::new();
+    let mut at = 0;
+    while let Ok(length) = plain::judge(batch, at) {
+        starts.push(at);
+        at += length;
+    }
+    starts
 }
 
 /// A buffer with a plausible head over a body with many zero units.

@@ -109,12 +109,13 @@ fn counts(tally: &Tally) -> String {
 fn reached(total: &Tally) {
     let reading: Vec<u32> = (0..=13).collect();
     let writing = [0, 2, 6, 7, 8, 9, 10, 11, 12, 15];
-    let expected: [(Call, Vec<u32>); 8] = [
+    let expected: [(Call, Vec<u32>); 9] = [
         (Call::Step, reading.clone()),
         (Call::StepBack, reading.clone()),
         (Call::String, [&reading[..], &[17]].concat()),
         (Call::Walk, reading.clone()),
-        (Call::WalkBack, reading),
+        (Call::WalkBack, reading.clone()),
+        (Call::Program, [&reading[..], &[16]].concat()),
         (Call::Write, writing.to_vec()),
         (Call::Append, [&writing[..], &[1, 14]].concat()),
         (Call::Listing, vec![0, 15]),

@@ -38,8 +38,8 @@ fn refused_with_10() {
     let well_formed = [1, 1, 0, 0, 0, 0, 0, 5, 18, 0, 0, 0];
     for sid in [printed, well_formed] {
         let record = record(sid);
-        let proved = eventlog::step(&record, 0).map_err(|r| r.why.number());
-        let back = eventlog::step_back(&record, record.len()).map_err(|r| r.why.number());
+        let proved = eventlog::step(&record, 0).map_err(|r| r.refusal.number());
+        let back = eventlog::step_back(&record, record.len()).map_err(|r| r.refusal.number());
         assert_eq!((proved, back), (Err(10), Err(10)));
         let plain = (
             plain::judge(&record, 0),

@@ -173,14 +173,14 @@ fn series(rng: &mut Rng, records: &[Vec<u8>], backwards: bool) {
             1 => 2_000,
             _ => rng.below(800),
         };
-        let lent = match rng.below(8) {
+        let out_len = match rng.below(8) {
             0 => size.saturating_sub(1),
             1 => size,
             _ => size + rng.below(50),
         };
-        let mut out = rng.bytes(lent);
+        let mut out = rng.bytes(out_len);
         let before = out.clone();
-        let wrong = ![5, 6, 9, 10].contains(&asked) || size > lent;
+        let wrong = ![5, 6, 9, 10].contains(&asked) || size > out_len;
         if !wrong && asked != flags {
             continue;
         }

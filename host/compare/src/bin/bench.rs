@@ -51,19 +51,24 @@ fn long_name(rng: &mut Random, units: usize) -> Vec<u8> {
     made.encode(None)
 }
 
+/// How many records a walk found; the batches are good.
+fn counted(walked: Result<usize, eventlog::StoppedWalk>) -> usize {
+    walked.unwrap_or_else(|stopped| stopped.count)
+}
+
 /// Reads the whole log, one direction; answers the bytes read.
 fn serve_proved(log: &[u8], flags: u32, out: &mut [u8]) -> usize {
     let mut handle = eventlog::Handle::fresh();
     let mut sum = 0;
     loop {
-        match handle.read(log, flags, 0, out.len(), out) {
-            Ok(read) => {
-                sum += read.bytes;
-                handle = read.handle;
+        match handle.read_with_flags(log, flags, 0, out.len(), out) {
+            Ok(batch) => {
+                sum += batch.bytes.len();
+                handle = batch.handle;
             }
-            Err(refusal) => {
+            Err(error) => {
                 let end = eventlog::Status::EndOfFile;
-                assert_eq!((refusal.status, sum), (end, log.len()));
+                assert_eq!((error.status, sum), (end, log.len()));
                 return sum;
             }
         }
@@ -132,13 +137,13 @@ fn rows(rng: &mut Random, name: &str, length: usize) {
     row(
         &format!("walk, records of {name}"),
         records,
-        &mut || eventlog::walk(black_box(log)).count,
+        &mut || counted(eventlog::walk(black_box(log))),
         &mut || plain::walk(black_box(log)).count,
     );
     row(
         &format!("walk back, records of {name}"),
         records,
-        &mut || eventlog::walk_back(black_box(log)).count,
+        &mut || counted(eventlog::walk_back(black_box(log))),
         &mut || plain::walk_back(black_box(log)).count,
     );
     let (mut out, mut other) = (vec![0; READ], vec![0; READ]);
@@ -161,7 +166,7 @@ fn name_row(rng: &mut Random) {
         NAME_WALKS,
         &mut || {
             (0..NAME_WALKS)
-                .map(|_| eventlog::walk(black_box(record)).count)
+                .map(|_| counted(eventlog::walk(black_box(record))))
                 .sum()
         },
         &mut || {

@@ -79,19 +79,11 @@ fn event(rng: &mut Random, record_number: u32) -> Made {
 
 fn written(made: &Made) -> Vec<u8> {
     let mut record = vec![0; made.length()];
-    let length = eventlog::write(&made.proved(), &mut record).expect("the event is accepted");
+    let number = made.fields.record_number;
+    let written = eventlog::write(number, &made.proved(), &mut record);
+    let length = written.expect("the event is accepted");
     assert_eq!(length, record.len());
     record
-}
-
-fn text(bytes: &[u8]) -> String {
-    let units: Vec<u16> = bytes
-        .as_chunks()
-        .0
-        .iter()
-        .map(|unit| u16::from_le_bytes(*unit))
-        .collect();
-    String::from_utf16(&units).expect("only letters were written")
 }
 
 /// A SID whose authority has its first two bytes zero, as its usual text.
@@ -137,48 +129,42 @@ fn time_text(seconds: u32) -> String {
     )
 }
 
-/// The strings of a record that the proved reader accepts.
-fn strings(record: &[u8], count: u16) -> Vec<String> {
-    let string = |k| text(eventlog::string(record, 0, k).expect("the string is there"));
-    (0..u32::from(count)).map(string).collect()
-}
-
 /// ndrdump's lines but for those left out, from the proved reader.
 fn as_ndrdump(record: &[u8]) -> Shown {
     let r = eventlog::step(record, 0).expect("the record is accepted");
-    let f = r.fields;
+    let e = r.event;
     let long = |n: usize| format!("0x{n:08x} ({n})");
     let short = |n: u16| format!("0x{n:04x} ({n})");
     let quoted = |text: String| format!("'{text}'");
     // The writer puts 0 for the offset of an absent part.
     let offset = |part: &[u8], at: usize| long(if part.is_empty() { 0 } else { at });
-    let sid = match r.sid {
+    let sid = match e.sid {
         [] => "S-0-0".to_string(),
         sid => sid_text(sid),
     };
     let mut shown = named([
         ("Length", long(r.length)),
-        ("RecordNumber", long(f.record_number as usize)),
-        ("EventID", long(f.event_id as usize)),
-        ("EventType", format!("({})", f.event_type)),
-        ("NumStrings", short(f.num_strings)),
-        ("EventCategory", short(f.event_category)),
-        ("ReservedFlags", short(f.reserved_flags)),
-        ("StringOffset", offset(r.strings, r.strings_at)),
-        ("UserSidLength", long(r.sid.len())),
-        ("UserSidOffset", offset(r.sid, r.sid_at)),
-        ("DataLength", long(r.event_data.len())),
-        ("DataOffset", offset(r.event_data, r.event_data_at)),
-        ("SourceName", quoted(text(r.source_name))),
-        ("Computername", quoted(text(r.computer_name))),
+        ("RecordNumber", long(r.record_number as usize)),
+        ("EventID", long(e.event_id as usize)),
+        ("EventType", format!("({})", e.event_type)),
+        ("NumStrings", short(e.num_strings)),
+        ("EventCategory", short(e.event_category)),
+        ("ReservedFlags", short(e.reserved_flags)),
+        ("StringOffset", offset(e.strings, r.places.strings)),
+        ("UserSidLength", long(e.sid.len())),
+        ("UserSidOffset", offset(e.sid, r.places.sid)),
+        ("DataLength", long(e.event_data.len())),
+        ("DataOffset", offset(e.event_data, r.places.event_data)),
+        ("SourceName", quoted(e.source_name.to_string())),
+        ("Computername", quoted(e.computer_name.to_string())),
         ("UserSid", sid),
     ]);
-    shown.push((format!("Strings: ARRAY({})", f.num_strings), String::new()));
-    for string in strings(record, f.num_strings) {
-        shown.push(("Strings".to_string(), quoted(string)));
+    shown.push((format!("Strings: ARRAY({})", e.num_strings), String::new()));
+    for string in r.strings() {
+        shown.push(("Strings".to_string(), quoted(string.to_string())));
     }
     shown.extend(named([
-        ("Data", hex(r.event_data)),
+        ("Data", hex(e.event_data)),
         ("Length2", long(r.length)),
     ]));
     shown
@@ -187,25 +173,25 @@ fn as_ndrdump(record: &[u8]) -> Shown {
 /// evtexport's lines, from the proved reader.
 fn as_evtexport(record: &[u8]) -> Shown {
     let r = eventlog::step(record, 0).expect("the record is accepted");
-    let f = r.fields;
+    let e = r.event;
     let mut shown = named([
-        ("Event number", f.record_number.to_string()),
-        ("Creation time", time_text(f.time_generated)),
-        ("Written time", time_text(f.time_written)),
-        ("Event type", format!("({})", f.event_type)),
+        ("Event number", r.record_number.to_string()),
+        ("Creation time", time_text(e.time_generated)),
+        ("Written time", time_text(e.time_written)),
+        ("Event type", format!("({})", e.event_type)),
     ]);
-    if !r.sid.is_empty() {
-        shown.extend(named([("User security identifier", sid_text(r.sid))]));
+    if !e.sid.is_empty() {
+        shown.extend(named([("User security identifier", sid_text(e.sid))]));
     }
     shown.extend(named([
-        ("Computer name", text(r.computer_name)),
-        ("Source name", text(r.source_name)),
-        ("Event category", f.event_category.to_string()),
-        ("Event identifier", format!("0x{0:08x} ({0})", f.event_id)),
-        ("Number of strings", f.num_strings.to_string()),
+        ("Computer name", e.computer_name.to_string()),
+        ("Source name", e.source_name.to_string()),
+        ("Event category", e.event_category.to_string()),
+        ("Event identifier", format!("0x{0:08x} ({0})", e.event_id)),
+        ("Number of strings", e.num_strings.to_string()),
     ]));
-    for (k, string) in strings(record, f.num_strings).into_iter().enumerate() {
-        shown.push((format!("String: {}", k + 1), string));
+    for (k, string) in r.strings().enumerate() {
+        shown.push((format!("String: {}", k + 1), string.to_string()));
     }
     shown
 }

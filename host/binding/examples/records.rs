@@ -1,0 +1,77 @@
+//! Prints the records of a log, appends an entry to it in memory, and reads the
+//! log back from the rear.
+
+use std::error::Error;
+use std::io::{self, Write};
+use std::{env, fs};
+
+use eventlog::{
+    Direction, Event, Handle, MAX_LENGTH, MAX_READ, ReadKind, Record, Status, append, event_type,
+    records, utf16,
+};
+
+fn print(record: &Record, out: &mut dyn Write) -> io::Result<()> {
+    let Event {
+        event_id,
+        event_type,
+        source_name,
+        computer_name,
+        ..
+    } = record.event;
+    let number = record.record_number;
+    write!(out, "{number}: event {event_id}, type {event_type}")?;
+    writeln!(out, ", from {source_name} on {computer_name}")?;
+    for string in record.strings() {
+        writeln!(out, "    \"{string}\"")?;
+    }
+    Ok(())
+}
+
+/// # Errors
+///
+/// Whatever is refused, or cannot be printed.
+pub fn run(mut log: Vec<u8>, out: &mut dyn Write) -> Result<(), Box<dyn Error>> {
+    for record in records(&log) {
+        print(&record?, out)?;
+    }
+    let repair = Event {
+        event_id: 300,
+        event_type: event_type::INFORMATION,
+        num_strings: 2,
+        source_name: utf16!("Scale"),
+        computer_name: utf16!("T1"),
+        strings: utf16!("load cell replaced\0zero point set\0").as_bytes(),
+        ..Event::default()
+    };
+    let used = log.len();
+    log.resize(used + MAX_LENGTH, 0);
+    let used = append(&mut log, used, &repair)?;
+
+    writeln!(out, "from the rear:")?;
+    let (log, mut batch) = (&log[..used], vec![0; MAX_READ]);
+    let mut handle = Handle::fresh();
+    loop {
+        let size = batch.len();
+        match handle.read(
+            log,
+            ReadKind::Sequential,
+            Direction::Backwards,
+            size,
+            &mut batch,
+        ) {
+            Ok(read) => {
+                for record in read.records() {
+                    print(&record?, out)?;
+                }
+                handle = read.handle;
+            }
+            Err(error) if error.status == Status::EndOfFile => return Ok(()),
+            Err(error) => return Err(error.into()),
+        }
+    }
+}
+
+fn main() -> Result<(), Box<dyn Error>> {
+    let path = env::args_os().nth(1).ok_or("usage: records LOG")?;
+    run(fs::read(path)?, &mut io::stdout().lock())
+}

@@ -1,0 +1,138 @@
+//! Why a call refuses.
+
+use core::error::Error;
+use core::fmt;
+
+/// Why a call refuses, by the number that the library answers. Its text says it
+/// in plain words.
+///
+/// ```
+/// use eventlog::{refusal, Refusal};
+///
+/// let refused = refusal(&[], 0);
+/// assert_eq!(refused, Some(Refusal::Place));
+/// assert_eq!(Refusal::Length2.to_string(), "Length and Length2 differ");
+/// ```
+#[non_exhaustive]
+#[repr(u32)]
+#[derive(Clone, Copy, Debug, PartialEq, Eq, Hash)]
+pub enum Refusal {
+    /// The place is past the end, or too few bytes stand there.
+    Place = 1,
+    /// Length is out of range or not a multiple of 4.
+    Length = 2,
+    /// Length is more than the bytes left.
+    CutShort = 3,
+    /// Reserved is not the [signature](crate::SIGNATURE).
+    Signature = 4,
+    /// Length and Length2 differ.
+    Length2 = 5,
+    /// The event type is none of the [six](crate::event_type).
+    EventType = 6,
+    /// The flags are neither 0 nor 0x8000.
+    Flags = 7,
+    /// There are more than 256 strings.
+    StringCount = 8,
+    /// A name is not ended (reading) or cannot be a name (writing).
+    Name = 9,
+    /// The SID is wrong or misplaced.
+    Sid = 10,
+    /// The strings are misplaced, not ended, or not as many as said.
+    Strings = 11,
+    /// The data is too long or misplaced.
+    Data = 12,
+    /// Length is not the laid-out size.
+    Size = 13,
+    /// The log does not end with a good record.
+    LogEnd = 14,
+    /// The output is too short.
+    Output = 15,
+    /// The record has no such string.
+    NoString = 17,
+}
+
+impl Refusal {
+    /// The refusal's number.
+    ///
+    /// ```
+    /// assert_eq!(eventlog::Refusal::NoString.number(), 17);
+    /// ```
+    #[must_use]
+    pub const fn number(self) -> u32 {
+        self as u32
+    }
+
+    /// The refusal with the library's number, `None` for 0.
+    pub(crate) fn from_number(number: u32) -> Option<Self> {
+        Some(match number {
+            0 => return None,
+            1 => Refusal::Place,
+            2 => Refusal::Length,
+            3 => Refusal::CutShort,
+            4 => Refusal::Signature,
+            5 => Refusal::Length2,
+            6 => Refusal::EventType,
+            7 => Refusal::Flags,
+            8 => Refusal::StringCount,
+            9 => Refusal::Name,
+            10 => Refusal::Sid,
+            11 => Refusal::Strings,
+            12 => Refusal::Data,
+            13 => Refusal::Size,
+            14 => Refusal::LogEnd,
+            15 => Refusal::Output,
+            17 => Refusal::NoString,
+            _ => panic!("refusal {number}, which the library is proved never to answer"),
+        })
+    }
+
+    /// The answer, unless the library's number is a refusal's.
+    pub(crate) fn unless<T>(number: u32, answer: T) -> Result<T, Self> {
+        Refusal::from_number(number).map_or(Ok(answer), Err)
+    }
+}
+
+impl fmt::Display for Refusal {
+    fn fmt(&self, f: &mut fmt::Formatter<'_>) -> fmt::Result {
+        f.write_str(match self {
+            Refusal::Place => "the place is past the end, or too few bytes stand there",
+            Refusal::Length => "Length is out of range or not a multiple of 4",
+            Refusal::CutShort => "Length is more than the bytes left",
+            Refusal::Signature => "Reserved is not the signature",
+            Refusal::Length2 => "Length and Length2 differ",
+            Refusal::EventType => "the event type is none of the six",
+            Refusal::Flags => "the flags are neither 0 nor 0x8000",
+            Refusal::StringCount => "there are more than 256 strings",
+            Refusal::Name => "a name is not ended, or cannot be a name",
+            Refusal::Sid => "the SID is wrong or misplaced",
+            Refusal::Strings => "the strings are misplaced, not ended, or not as many as said",
+            Refusal::Data => "the data is too long or misplaced",
+            Refusal::Size => "Length is not the laid-out size",
+            Refusal::LogEnd => "the log does not end with a good record",
+            Refusal::Output => "the output is too short",
+            Refusal::NoString => "the record has no such string",
+        })
+    }
+}
+
+impl Error for Refusal {}
+
+#[cfg(test)]
+mod tests {
+    use super::*;
+
+    #[test]
+    fn numbers() {
+        assert_eq!(Refusal::from_number(0), None);
+        for number in (1..=15).chain([17]) {
+            let refusal = Refusal::from_number(number);
+            assert_eq!(refusal.map(Refusal::number), Some(number));
+        }
+    }
+
+    #[test]
+    #[should_panic(expected = "refusal 16")]
+    fn sixteen_is_the_listing_programs() {
+        Refusal::from_number(16);
+    }
+}

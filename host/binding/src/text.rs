@@ -1,0 +1,342 @@
+//! Texts of UTF-16 units, little-endian, as they lie in a record.
+
+use core::char::{DecodeUtf16, REPLACEMENT_CHARACTER, decode_utf16};
+use core::fmt::{self, Write};
+use core::iter::FusedIterator;
+use core::slice;
+
+/// The zero unit.
+const ZERO: [u8; 2] = [0; 2];
+
+/// A name or a string, as the bytes of its UTF-16 units, little-endian. The
+/// library does not judge units: a text may hold half of a surrogate pair. As
+/// text it is shown with U+FFFD in the place of such a unit.
+///
+/// ```
+/// use eventlog::Text;
+///
+/// let text = Text::new(b"O\0K\0");
+/// assert_eq!(text, "OK");
+/// assert_eq!(text.to_string(), "OK");
+/// ```
+#[derive(Clone, Copy, Default, PartialEq, Eq, Hash)]
+pub struct Text<'a>(&'a [u8]);
+
+impl<'a> Text<'a> {
+    /// The text with these bytes. The last one of an odd number of bytes is no
+    /// unit; writing refuses such a name.
+    ///
+    /// ```
+    /// use eventlog::Text;
+    /// assert!(Text::new(&[0x41, 0, 0xAC, 0x20]).units().eq([0x41, 0x20AC]));
+    /// ```
+    #[must_use]
+    pub const fn new(bytes: &'a [u8]) -> Self {
+        Text(bytes)
+    }
+
+    /// The bytes.
+    ///
+    /// ```
+    /// assert_eq!(eventlog::utf16!("OK").as_bytes(), b"O\0K\0");
+    /// ```
+    #[must_use]
+    pub const fn as_bytes(self) -> &'a [u8] {
+        self.0
+    }
+
+    /// Whether there is no byte.
+    ///
+    /// ```
+    /// assert!(eventlog::Text::default().is_empty());
+    /// ```
+    #[must_use]
+    pub const fn is_empty(self) -> bool {
+        self.0.is_empty()
+    }
+
+    /// The units.
+    ///
+    /// ```
+    /// assert!(eventlog::utf16!("A€").units().eq([0x41, 0x20AC]));
+    /// ```
+    pub fn units(self) -> Units<'a> {
+        Units(self.0.as_chunks().0.iter())
+    }
+
+    /// The characters, and an error for each unit that is none.
+    ///
+    /// ```
+    /// use eventlog::{utf16, Text};
+    /// assert!(utf16!("A🙂").chars().flatten().eq("A🙂".chars()));
+    /// assert!(Text::new(&[0x00, 0xD8]).chars().all(|c| c.is_err()));
+    /// ```
+    #[must_use]
+    pub fn chars(self) -> DecodeUtf16<Units<'a>> {
+        decode_utf16(self.units())
+    }
+}
+
+impl fmt::Display for Text<'_> {
+    fn fmt(&self, f: &mut fmt::Formatter<'_>) -> fmt::Result {
+        let mut chars = self.chars();
+        chars.try_for_each(|c| f.write_char(c.unwrap_or(REPLACEMENT_CHARACTER)))
+    }
+}
+
+impl fmt::Debug for Text<'_> {
+    fn fmt(&self, f: &mut fmt::Formatter<'_>) -> fmt::Result {
+        f.write_char('"')?;
+        for c in self.chars() {
+            match c {
+                Ok(c) => write!(f, "{}", c.escape_debug())?,
+                Err(e) => write!(f, "\\u{{{:x}}}", e.unpaired_surrogate())?,
+            }
+        }
+        f.write_char('"')
+    }
+}
+
+impl PartialEq<str> for Text<'_> {
+    fn eq(&self, other: &str) -> bool {
+        self.0.len().is_multiple_of(2) && self.units().eq(other.encode_utf16())
+    }
+}
+
+impl PartialEq<&str> for Text<'_> {
+    fn eq(&self, other: &&str) -> bool {
+        *self == **other
+    }
+}
+
+/// The units of a [`Text`]. Made by [`Text::units`].
+///
+/// ```
+/// let units = eventlog::utf16!("abc").units();
+/// assert_eq!(units.len(), 3);
+/// assert!(units.rev().eq([0x63, 0x62, 0x61]));
+/// ```
+#[derive(Clone, Debug)]
+#[must_use = "an iterator does nothing until it is asked for items"]
+pub struct Units<'a>(slice::Iter<'a, [u8; 2]>);
+
+impl Iterator for Units<'_> {
+    type Item = u16;
+
+    fn next(&mut self) -> Option<u16> {
+        self.0.next().copied().map(u16::from_le_bytes)
+    }
+
+    fn size_hint(&self) -> (usize, Option<usize>) {
+        self.0.size_hint()
+    }
+}
+
+impl DoubleEndedIterator for Units<'_> {
+    fn next_back(&mut self) -> Option<u16> {
+        self.0.next_back().copied().map(u16::from_le_bytes)
+    }
+}
+
+impl ExactSizeIterator for Units<'_> {}
+impl FusedIterator for Units<'_> {}
+
+/// The strings of a run, each without its zero unit. It ends where no ended
+/// string starts; the run of a record that was read has nothing else. Made by
+/// [`Record::strings`](crate::Record::strings).
+///
+/// ```
+/// use eventlog::{utf16, Strings};
+///
+/// let mut strings = Strings::new(utf16!("first\0\0not ended").as_bytes());
+/// assert_eq!(strings.next().unwrap(), "first");
+/// assert_eq!(strings.next().unwrap(), "");
+/// assert_eq!(strings.next(), None);
+/// ```
+#[derive(Clone, Debug)]
+#[must_use = "an iterator does nothing until it is asked for items"]
+pub struct Strings<'a> {
+    run: &'a [u8],
+    place: usize,
+}
+
+impl<'a> Strings<'a> {
+    /// The strings of a run.
+    ///
+    /// ```
+    /// assert_eq!(eventlog::Strings::new(b"O\0K\0\0\0").count(), 1);
+    /// ```
+    pub const fn new(run: &'a [u8]) -> Self {
+        Strings { run, place: 0 }
+    }
+}
+
+impl<'a> Iterator for Strings<'a> {
+    type Item = Text<'a>;
+
+    fn next(&mut self) -> Option<Text<'a>> {
+        let (string, next) = next_string(self.run, self.place)?;
+        self.place = next;
+        Some(Text(string))
+    }
+
+    fn size_hint(&self) -> (usize, Option<usize>) {
+        (0, Some((self.run.len() - self.place) / ZERO.len()))
+    }
+}
+
+impl FusedIterator for Strings<'_> {}
+
+/// The string that starts at a place of a run, and the place after its zero
+/// unit; nothing where no ended string starts there.
+fn next_string(run: &[u8], place: usize) -> Option<(&[u8], usize)> {
+    let rest = run.get(place..)?;
+    let units = rest.as_chunks().0;
+    let len = ZERO.len() * units.iter().position(|unit| *unit == ZERO)?;
+    Some((&rest[..len], place + len + ZERO.len()))
+}
+
+/// A [`Text`] from a literal, at compile time.
+///
+/// ```
+/// use eventlog::{utf16, Text};
+///
+/// const NAME: Text = utf16!("Scale");
+/// assert_eq!(NAME.as_bytes(), b"S\0c\0a\0l\0e\0");
+/// assert_eq!(utf16!("Grüße, 🙂").to_string(), "Grüße, 🙂");
+/// ```
+#[macro_export]
+macro_rules! utf16 {
+    ($text:expr) => {{
+        const BYTES: [u8; $crate::utf16_len($text)] = $crate::utf16_bytes($text);
+        $crate::Text::new(&BYTES)
+    }};
+}
+
+/// How many bytes a text has as UTF-16.
+#[doc(hidden)]
+#[must_use]
+pub const fn utf16_len(text: &str) -> usize {
+    let (mut at, mut len) = (0, 0);
+    while at < text.len() {
+        let (c, width) = decode_utf8(text.as_bytes(), at);
+        at += width;
+        len += if c < 0x1_0000 { 2 } else { 4 };
+    }
+    len
+}
+
+/// A text as UTF-16, little-endian. `N` has to be its [`utf16_len`].
+#[doc(hidden)]
+#[must_use]
+pub const fn utf16_bytes<const N: usize>(text: &str) -> [u8; N] {
+    let mut bytes = [0; N];
+    let (mut at, mut end) = (0, 0);
+    while at < text.len() {
+        let (c, width) = decode_utf8(text.as_bytes(), at);
+        at += width;
+        let [low, high, ..] = if c < 0x1_0000 {
+            c.to_le_bytes()
+        } else {
+            let [low, high, ..] = (0xD800 + ((c - 0x1_0000) >> 10)).to_le_bytes();
+            bytes[end] = low;
+            bytes[end + 1] = high;
+            end += 2;
+            (0xDC00 + (c & 0x3FF)).to_le_bytes()
+        };
+        bytes[end] = low;
+        bytes[end + 1] = high;
+        end += 2;
+    }
+    assert!(end == N);
+    bytes
+}
+
+/// The character of UTF-8 at a place, and how many bytes it has there.
+const fn decode_utf8(bytes: &[u8], at: usize) -> (u32, usize) {
+    let first = bytes[at];
+    let (mut c, width) = match first {
+        0..0x80 => (first, 1),
+        0x80..0xE0 => (first & 0x1F, 2),
+        0xE0..0xF0 => (first & 0x0F, 3),
+        _ => (first & 0x07, 4),
+    };
+    let mut wide = c as u32;
+    let mut i = 1;
+    while i < width {
+        c = bytes[at + i] & 0x3F;
+        wide = wide << 6 | c as u32;
+        i += 1;
+    }
+    (wide, width)
+}
+
+#[cfg(test)]
+mod tests {
+    use super::*;
+    use std::format;
+    use std::vec::Vec;
+
+    fn encoded(text: &str) -> Vec<u8> {
+        text.encode_utf16().flat_map(u16::to_le_bytes).collect()
+    }
+
+    /// The first and the last character of each width, and around surrogates.
+    #[test]
+    fn literals_are_utf16() {
+        macro_rules! same {
+            ($($text:expr),*) => { $(assert_eq!(utf16!($text).as_bytes(), encoded($text));)* };
+        }
+        same!(
+            "",
+            "A",
+            "\0",
+            "\u{7f}",
+            "\u{80}",
+            "\u{7ff}",
+            "\u{800}",
+            "\u{d7ff}",
+            "\u{e000}",
+            "\u{ffff}",
+            "\u{10000}",
+            "\u{103ff}",
+            "\u{10400}",
+            "\u{10ffff}",
+            "aé€🙂z"
+        );
+    }
+
+    #[test]
+    fn texts_are_shown() {
+        let half = Text::new(&[0x41, 0, 0, 0xD8, 0x42, 0]);
+        assert_eq!(format!("{half}"), "A\u{FFFD}B");
+        assert_eq!(format!("{half:?}"), "\"A\\u{d800}B\"");
+        assert_eq!(format!("{:?}", utf16!("a\n\"é")), "\"a\\n\\\"é\"");
+    }
+
+    #[test]
+    fn texts_are_compared() {
+        assert_eq!(utf16!("aé€🙂"), "aé€🙂");
+        for other in ["", "a", "aé€", "aé€🙂b", "aé€🙃"] {
+            assert_ne!(utf16!("aé€🙂"), other);
+        }
+        // Half a unit is in no text.
+        assert_ne!(Text::new(b"A\0B"), "A");
+        assert_ne!(Text::new(b"A\0B"), "AB");
+    }
+
+    #[test]
+    fn strings_end_where_none_is_ended() {
+        let strings = |run| Strings::new(run).map(Text::as_bytes).collect::<Vec<_>>();
+        assert_eq!(strings(b""), [b""; 0]);
+        assert_eq!(strings(b"A\0"), [b""; 0]);
+        assert_eq!(strings(b"A\0\0"), [b""; 0]);
+        assert_eq!(strings(b"\0\0"), [b""]);
+        assert_eq!(strings(b"A\0\0\0B\0\0"), [b"A\0"]);
+        // Zero bytes of two units are no zero unit.
+        assert_eq!(strings(b"A\0\0B\0\0\0\0"), [&b"A\0\0B"[..], b""]);
+        let mut run = Strings::new(b"A\0\0\0");
+        assert_eq!(run.size_hint(), (0, Some(2)));
+        assert!(run.next().is_some() && run.next().is_none() && run.next().is_none());
+    }
+}

@@ -1,0 +1,106 @@
+/* How much stack each call takes: it runs on a stack of its own that was painted before, and what is no longer paint
+ * was used. A call that only returns is measured first, and what it takes is taken off. Every call is held to half of
+ * the header's number. */
+#include "eventlog.h"
+
+#include <stdio.h>
+#include <string.h>
+#include <ucontext.h>
+
+enum { STACK = 64 * 1024, PAINT = 0xA5 };
+
+static uint8_t stack[STACK];
+static ucontext_t here, there;
+static void (*called)(void);
+
+static void run(void)
+{
+    called();
+}
+
+/* The bytes of the stack that a call used. */
+static size_t used_by(void (*call)(void))
+{
+    memset(stack, PAINT, STACK);
+    called = call;
+    getcontext(&there);
+    there.uc_stack.ss_sp = stack;
+    there.uc_stack.ss_size = STACK;
+    there.uc_link = &here;
+    makecontext(&there, run, 0);
+    swapcontext(&here, &there);
+    size_t untouched = 0;
+    while (untouched < STACK && stack[untouched] == PAINT)
+        untouched++;
+    return STACK - untouched;
+}
+
+static uint8_t batch[200000], out[EVENTLOG_MAX_READ];
+static size_t used;
+
+/* A record with every part, a large number and long places: each way through the code is gone. */
+static const eventlog_event event = {
+    .fields = {.event_type = EVENTLOG_AUDIT_FAILURE, .num_strings = 2, .reserved_flags = EVENTLOG_FLAGS_XML},
+    .source_name = EVENTLOG_NAME(u"Scale"), .computer_name = EVENTLOG_NAME(u"T1"),
+    .sid = {(const uint8_t *)"\1\1\0\0\0\0\0\5\22\0\0", 12}, .strings = EVENTLOG_STRINGS(u"OK\0fine"),
+    .event_data = {batch, 30000},
+};
+
+/* Answers are kept, so that no call is left out. */
+static volatile size_t kept;
+
+static void nothing(void) { kept = 0; }
+static void fresh(void) { kept = eventlog_fresh().boundary; }
+static void step(void) { kept = eventlog_step(batch, used, 0).found.length; }
+static void step_back(void) { kept = eventlog_step_back(batch, used, used).found.length; }
+static void refusal(void) { kept = eventlog_refusal(batch, used, 0); }
+static void string(void) { kept = eventlog_string(batch, used, 0, 1).at; }
+static void string_refusal(void) { kept = eventlog_string_refusal(batch, used, 0, 1); }
+static void walk(void) { kept = eventlog_walk(batch, used).count; }
+static void walk_back(void) { kept = eventlog_walk_back(batch, used).count; }
+static void write_event(void) { kept = eventlog_write_event(UINT32_MAX, &event, out, sizeof out).length; }
+static void append(void) { kept = eventlog_append_event(batch, sizeof batch, used, &event).used; }
+static void listing(void) { kept = eventlog_listing(batch, used, out, sizeof out).length; }
+
+static void read_with(uint32_t flags)
+{
+    kept = eventlog_read(eventlog_fresh(), batch, used, flags, 0, sizeof out, out, sizeof out).read;
+}
+
+static void forwards(void) { read_with(EVENTLOG_SEQUENTIAL | EVENTLOG_FORWARDS); }
+static void backwards(void) { read_with(EVENTLOG_SEQUENTIAL | EVENTLOG_BACKWARDS); }
+static void seek(void) { read_with(EVENTLOG_SEEK | EVENTLOG_BACKWARDS); }
+
+int main(void)
+{
+    static const struct {
+        const char *name;
+        void (*call)(void);
+    } calls[] = {
+        {"fresh", fresh}, {"step", step}, {"step_back", step_back}, {"refusal", refusal}, {"string", string},
+        {"string_refusal", string_refusal}, {"walk", walk}, {"walk_back", walk_back}, {"write", write_event},
+        {"append", append}, {"read forwards", forwards}, {"read backwards", backwards}, {"read seek", seek},
+        {"listing", listing},
+    };
+    /* Records numbered from 4,294,967,294 on, so that a listing has long numbers; a seek finds the third, 0. */
+    used = eventlog_write_event(UINT32_MAX - 1, &event, batch, sizeof batch).length;
+    for (int i = 0; i < 3; i++)
+        used = eventlog_append_event(batch, sizeof batch, used, &event).used;
+    size_t most = 0, base = used_by(nothing);
+    for (size_t i = 0; i < sizeof calls / sizeof *calls; i++) {
+        kept = 0;
+        size_t taken = used_by(calls[i].call) - base;
+        if (kept == 0 && calls[i].call != fresh && calls[i].call != refusal && calls[i].call != string_refusal) {
+            printf("stack.c: %s answers nothing\n", calls[i].name);
+            return 1;
+        }
+        if (taken > EVENTLOG_MAX_STACK / 2) {
+            printf("stack.c: %s takes %zu bytes of stack\n", calls[i].name, taken);
+            return 1;
+        }
+        if (taken > most)
+            most = taken;
+    }
+    printf("stack.c: passed, at most %zu bytes of stack\n", most);
+    return 0;
+}
