@@ -1,0 +1,5 @@
+pub mod Laws
+pub mod Model
+pub mod Samples
+pub mod Series
+pub mod Theorems
