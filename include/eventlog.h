@@ -47,8 +47,9 @@
  * strings and data may be absent (length or count 0); then their offset is ignored. A present part's offset
  * is the place where this order puts it.
  *
- * Cost: a record's names and strings are looked at unit by unit, its data and gaps not at all. Each call says
- * how often. */
+ * Cost: a record's names and strings are looked at unit by unit, its data and gaps not at all. So a call is
+ * linear in the names and strings of the records that it looks at, and in the bytes that it copies; each says
+ * which, and how often. */
 #ifndef EVENTLOG_H
 #define EVENTLOG_H
 

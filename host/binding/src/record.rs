@@ -132,9 +132,6 @@ impl<'a> Record<'a> {
     /// # Ok::<(), Box<dyn std::error::Error>>(())
     /// ```
     pub fn string(&self, k: u32) -> Result<Text<'a>, Refusal> {
-        if k >= u32::from(self.event.num_strings) {
-            return Err(Refusal::NoString);
-        }
         self.strings().nth(k as usize).ok_or(Refusal::NoString)
     }
 }
