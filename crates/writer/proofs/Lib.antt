@@ -1,5 +1,3 @@
 mod Answers
-mod Extents
 mod Pieces
-mod Tests
 mod Whole
