@@ -1,4 +1,3 @@
 mod Handed
 mod Shown
 mod Steps
-mod Verdicts
