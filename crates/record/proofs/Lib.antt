@@ -1,7 +1,2 @@
-mod Chain
-mod Handed
-mod Names
 mod Shown
 mod Steps
-mod Tail
-mod Verdicts
