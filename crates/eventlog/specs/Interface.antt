@@ -6,7 +6,7 @@ use Prim.Native.Nat.{ℕ}
 use lib.Dec.{eqb}
 use Rattle.format.specs.declared.Step.{Step}
 use Rattle.format.specs.declared.Step.the-variants.{Found, Refused}
-use Rattle.record.specs.Read.{emptyRecord}
+use Rattle.parts.specs.Shown.{emptyRecord}
 use Rattle.serve.specs.declared.Place.{Place}
 use Rattle.serve.specs.declared.Place.the-variants.{Fresh, Boundary}
 use Rattle.serve.specs.declared.Handle.{Handle}

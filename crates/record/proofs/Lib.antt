@@ -1,3 +1,2 @@
-mod Handed
 mod Shown
 mod Steps
