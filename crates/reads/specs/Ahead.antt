@@ -140,5 +140,5 @@ pub record Turns (d : Direction) (w : ℕ) (s : List ℕ) (x : Served) : Type 0 
   pub bytes : take (x .answer .read) (x .output) ≡ before ++ part (last .start) (last .length) s
   pub handle : x .answer .handle ≡ record { place = Boundary boundary }
   pub next : stepAt (opposite d) w s boundary ≡ Found last
-  pub again : (q : Read) → Asks (sequentialFlags (opposite d)) s (x .answer .handle) q → last .length ≤ q .size
+  pub again : (q : Read) → q .flags ≡ sequentialFlags (opposite d) → RightSize q → last .length ≤ q .size
       → (call w s (x .answer .handle) q .answer .status ≡ 0) × (take (last .length) (call w s (x .answer .handle) q .output) ≡ part (last .start) (last .length) s)

@@ -7,7 +7,7 @@ use Prim.Native.Nat.{ℕ, zero, suc, _+_, _-_, _≤_, _<_}
 use native.Mathlib.Omega.{arith}
 use lib.ListN.{length, drop, length-append}
 use lib.Dec.{leb}
-use borrow.Author.Tests.{ne-eqb, le-leb, lt-leb, leb-true, leb-false}
+use borrow.Author.Tests.{ne-eqb, leb-true, leb-false}
 use Rattle.format.specs.declared.Record.{Record}
 use Rattle.format.specs.declared.Step.{Step}
 use Rattle.format.specs.declared.Step.the-variants.{Found, Refused}
@@ -22,15 +22,15 @@ use Rattle.delivery.specs.Delivering.{traceAhead, fitting, recordsBytes, edge, 
 use Rattle.serve.specs.declared.Place.the-variants.{Boundary}
 use Rattle.serve.specs.declared.Handle.{Handle}
 use Rattle.serve.specs.Answers.{Served, served}
-use Rattle.serve.specs.Serving.{endOfFile, eventlogFileCorrupt, bufferTooSmall, refused, servedWith}
+use Rattle.serve.specs.Serving.{refused, servedWith}
 use Rattle.reads.specs.Model.{Read}
-use Rattle.reads.specs.Ahead.{Exactly, NextRefuses, NextLonger, NextFits, Finds, stop, step, total, Copies, ReadsFrom}
+use Rattle.reads.specs.Ahead.{Exactly, NextRefuses, Finds, stop, step, total, Copies, ReadsFrom}
 use Rattle.reads.specs.Laws.Found.{Lies, found-lies}
 
-pub always : {A B : Type 0} → A → B → Exactly A B
+always : {A B : Type 0} → A → B → Exactly A B
 always a b = record { only = λ x. b; when = λ y. a }
 
-pub never : {A B : Type 0} → (A → ⊥) → (B → ⊥) → Exactly A B
+never : {A B : Type 0} → (A → ⊥) → (B → ⊥) → Exactly A B
 never f g = record { only = λ x. absurd (f x); when = λ y. absurd (g y) }
 
 module _ (d : Direction) (w : ℕ) (s : List ℕ) (p : ℕ) where
@@ -42,7 +42,7 @@ module _ (d : Direction) (w : ℕ) (s : List ℕ) (p : ℕ) where
   refused-found : (k q : ℕ) (a : Record) → stepAt d w s p ≡ Refused k q → stepAt d w s p ≡ Found a → ⊥
   refused-found k q a e f = let z : _≡_ {A = ℕ} 0 1 = cc in omega arith
 
-  pub same-found : (a b : Record) → stepAt d w s p ≡ Found a → stepAt d w s p ≡ Found b → a .length ≡ b .length
+  same-found : (a b : Record) → stepAt d w s p ≡ Found a → stepAt d w s p ≡ Found b → a .length ≡ b .length
   same-found a b e f = ap (λ (c : Record). c .length) (found-same (stepAt d w s p) a b e f)
 
   by-step : {X : Type 0} → (length (ahead d s p) ≡ 0 → X) → ((k q : ℕ) → zero < length (ahead d s p) → stepAt d w s p ≡ Refused k q → X)

@@ -42,7 +42,7 @@ module _ (w : ℕ) (s : List ℕ) (p : ℕ) (r : List ℕ) where
   start-again Forwards x = omega arith
   start-again Backwards x = refl
 
-  pub found-again : (d : Direction) → Judged w r → Stands d s p r
+  found-again : (d : Direction) → Judged w r → Stands d s p r
       → stepAt (opposite d) w s (past d p (length r)) ≡ Found (shown w (startOf d p (length r)) r)
   found-again d j x = stands-found j (ahead-again d x) ∙ ap (λ i. Found (shown w i r)) (start-again d x)
 

@@ -23,11 +23,11 @@ use Rattle.serve.specs.Answers.{Served}
 use Rattle.serve.specs.Serving.{placeOf, sought, refused, started}
 use Rattle.reads.specs.Model.{Read, seekFlags, Asks}
 use Rattle.reads.specs.Series.{call}
-use Rattle.reads.specs.Ahead.{Exactly, ReadsFrom, FirstHas, NoneHas, SeeksIn}
+use Rattle.reads.specs.Ahead.{ReadsFrom, FirstHas, NoneHas, SeeksIn}
 use Rattle.reads.specs.Laws.Requests.{seek-started}
 use Rattle.reads.specs.Laws.Seeking.{sought-first, seek-none}
 use Rattle.reads.specs.Laws.Found.{found-lies}
-use Rattle.reads.specs.Laws.Ahead.{same-found, first-found, reads-from}
+use Rattle.reads.specs.Laws.Ahead.{first-found, reads-from}
 
 -- ---- a record of the walk is the next one at its start, and at its end backwards
 
@@ -40,7 +40,7 @@ module _ (w : ℕ) (s : List ℕ) where
   walked-found p (b ∷ older) a newer e =
       walked-found (past Forwards p (b .length)) older a newer (first-found Forwards w s p b (older ++ (a ∷ newer)) e .1)
 
-  pub sought-next : (d : Direction) (number : ℕ) (a : Record) → FirstHas w s number a → stepAt d w s (placeOf d a) ≡ Found a
+  sought-next : (d : Direction) (number : ℕ) (a : Record) → FirstHas w s number a → stepAt d w s (placeOf d a) ≡ Found a
   sought-next d number a x = go d
     where
       front : stepAt Forwards w s (a .start) ≡ Found a
@@ -106,7 +106,7 @@ module _ (d : Direction) (w : ℕ) (s : List ℕ) (h : Handle) (q : Read) (asks 
   abbrev x : Served
   x = call w s h q
 
-  pub seek-onward : (a : Record) → FirstHas w s (q .number) a → ReadsFrom d w s (placeOf d a) q x
+  seek-onward : (a : Record) → FirstHas w s (q .number) a → ReadsFrom d w s (placeOf d a) q x
   seek-onward a y =
       subst (ReadsFrom d w s (placeOf d a) q)
       (sym

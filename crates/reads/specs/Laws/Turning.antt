@@ -74,7 +74,7 @@ module _ (d : Direction) (w : ℕ) (s : List ℕ) where
   )
 
   -- a read whose next record fits copies it first
-  pub copies-first : (p : ℕ) (q : Read) (x : Served) → ReadsFrom d w s p q x → (a : Record) → stepAt d w s p ≡ Found a → a .length ≤ q .size
+  copies-first : (p : ℕ) (q : Read) (x : Served) → ReadsFrom d w s p q x → (a : Record) → stepAt d w s p ≡ Found a → a .length ≤ q .size
       → (x .answer .status ≡ 0) × (take (a .length) (x .output) ≡ bytesIn a)
   copies-first p q x y a f h =
       let done : x .answer .status ≡ 0 = y .success .when (record { next = a; found = f; fits = h }) in
@@ -88,6 +88,12 @@ module _ (d : Direction) (w : ℕ) (s : List ℕ) where
             ∙ take-at (bytesIn a) (first .0 ++ rest) (a .length) (found-lies d w s p a f .bytes),
       )
 
+boundary-inside : (s : List ℕ) (h : Handle) (e : ℕ) → h ≡ record { place = Boundary e } → e ≤ length s → (b : ℕ) → h .place ≡ Boundary b → b ≤ length s
+boundary-inside s h e f l b g =
+    let place : h .place ≡ Boundary e = ap (λ (k : Handle). k .place) f in
+    let same : e ≡ b = cc in
+    omega (arith, same, l)
+
 -- a read from p on that copies something
 pub turns : (d : Direction) (w : ℕ) (s : List ℕ) (p : ℕ) (q : Read) (x : Served) → ReadsFrom d w s p q x → x .answer .status ≡ 0 → Turns d w s x
 turns d w s p q x y done =
@@ -95,6 +101,7 @@ turns d w s p q x y done =
     let l : Last d w s (c .records) (c .end) = some-last d w s (q .size) (c .found) (c .most) (y .success .only done) in
     let bytes : List ℕ = recordsBytes s (c .records) in
     let handle : x .answer .handle ≡ record { place = Boundary (c .end) } = ap (λ (z : Served). z .answer .handle) (c .answer) in
+    let inside : c .end ≤ length s = found-lies (opposite d) w s (c .end) (l .last) (l .next) .inside in
     record {
       last = l .last;
       before = l .before;
@@ -105,7 +112,12 @@ turns d w s p q x y done =
           ∙ l .bytes;
       handle = handle;
       next = l .next;
-      again = λ o a h.
+      again = λ o f z h.
+          let a : Asks (sequentialFlags (opposite d)) s (x .answer .handle) o = record {
+            flagged = f;
+            sized = z;
+            inside = record { boundary = boundary-inside s (x .answer .handle) (c .end) handle inside };
+          } in
           copies-first (opposite d) w s (c .end) o (call w s (x .answer .handle) o)
           (subst (ReadsFrom (opposite d) w s (c .end) o) (sym (sequential-started (opposite d) w s (x .answer .handle) o a ∙ ap (λ (k : Handle). servedWith (x .answer .handle) (delivering (opposite d) w s (readingPlace (opposite d) s (k .place)) (o .size) (o .output))) handle))
           (reads-from (opposite d) w s (c .end) (x .answer .handle) o))
