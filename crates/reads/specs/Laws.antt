@@ -1,7 +1,13 @@
+pub mod Ahead
+pub mod Arguments
 pub mod Counting
+pub mod Found
+pub mod Judging
 pub mod Placed
 pub mod Reading
 pub mod Refusing
 pub mod Requests
 pub mod Seeking
 pub mod Series
+pub mod Sought
+pub mod Turning
