@@ -136,11 +136,25 @@ fn longest() {
     show_array(b"Length 65536: ", &r);
 }
 
+// Empty names: 61,440 bytes of data make 61,504 bytes, and 61,441 make 61,508.
+fn data_limit() {
+    let mut r = [0u8; 61508];
+    stores::put(&mut r, 0, b"\x40\xf0\0\0LfLe");
+    stores::put(&mut r, 48, b"\0\xf0\0\0\x3c");
+    stores::put(&mut r, 61500, b"\x40\xf0");
+    show(b"61440 bytes of data: ", &r);
+    stores::put(&mut r, 0, b"\x44");
+    stores::put(&mut r, 48, b"\x01");
+    stores::put(&mut r, 61500, b"\0\0\0\0\x44\xf0");
+    show(b"61441 bytes of data: ", &r);
+}
+
 fn main() {
     types();
     flags();
     strings();
     longest();
+    data_limit();
     published::published();
     writing::writing();
     appending::appending();

@@ -112,6 +112,8 @@ fn write_long() {
         &[0u8; 61440],
         &mut out,
     );
+    show_long(b"write 61440 bytes of data: ", b"", &[0u8; 61440], &mut out);
+    show_long(b"write 61441 bytes of data: ", b"", &[0u8; 61441], &mut out);
     show_long(
         b"write 61441 bytes of data, too long: ",
         &[1u8; 4032],
