@@ -1,47 +1,88 @@
-// Appends: each line says the refusal and how much of the log is used then.
+// Appending: the refusal, how much of the log is used then, and the log.
 
-use crate::writing::line;
-use crate::writing::numbers;
+use crate::records::numbers;
+use crate::records::numbers_of_u;
+use crate::records::s;
+use crate::show::bytes;
+use crate::show::line;
+use crate::show::topic;
+use format::Step;
 use format::Unnumbered;
+use stores::put;
 
-// Appends a record with no parts and every number 0.
-fn show(what: &[u8], log: &mut [u8], used: usize) {
+// Appends U's event.
+fn append_u(what: &[u8], log: &mut [u8], used: usize) {
+    let a = append::append(
+        log,
+        used,
+        numbers_of_u(),
+        b"P\0a\0n\0s\0",
+        b"K\0",
+        b"\x01\x02\0\0\0\0\0\x05\x15\0\0\0\x20\x02\0\0",
+        b"A\0\0\0\0\0T\0a\0r\0e\0\0\0",
+        b"\xd1\xd2\xd3\xd4\xd5",
+    );
+    line(what, &[a.refusal as u64, a.used as u64]);
+}
+
+// Appends an event with no parts, every number 0 but the type.
+fn append_empty(what: &[u8], kind: u16, log: &mut [u8], used: usize) {
     let f = Unnumbered {
         time_generated: 0,
         time_written: 0,
         event_id: 0,
-        event_type: 0,
+        event_type: kind,
         num_strings: 0,
         event_category: 0,
         reserved_flags: 0,
     };
     let a = append::append(log, used, f, b"", b"", b"", b"", b"");
-    line(what, a.refusal as u64, a.used as u64);
+    line(what, &[a.refusal as u64, a.used as u64]);
 }
 
-// The number of the record that ends at a place, and where it starts.
-fn show_last(what: &[u8], log: &[u8], end: usize) {
+// The number and the start of the record that ends at a place.
+fn last(log: &[u8], end: usize) {
     match record::step_back(log, end) {
-        format::Step::Found(a) => line(what, a.fields.record_number as u64, a.start as u64),
-        format::Step::Refused { number: k, at: p } => line(b"refused: ", k as u64, p as u64),
+        Step::Found(a) => line(
+            b"  the last record's number and start",
+            &[a.fields.record_number as u64, a.start as u64],
+        ),
+        Step::Refused { number: k, at: p } => line(b"  refused", &[k as u64, p as u64]),
     }
 }
 
-fn fill_log() {
-    let mut log = [255u8; 160];
-    show(b"append to an empty log: ", &mut log, 0);
-    show_last(b"its number and start: ", &log, 64);
-    show(b"append after one record: ", &mut log, 64);
-    show_last(b"its number and start: ", &log, 128);
-    show(b"append without room: ", &mut log, 128);
-    show(b"append behind half a record: ", &mut log, 96);
-    show(b"append behind the buffer: ", &mut log, 161);
+fn grow() {
+    let mut log = [0xaau8; 300];
+    append_u(b"U to an empty log", &mut log, 0);
+    last(&log, 116);
+    append_empty(b"a record after it", 0, &mut log, 116);
+    last(&log, 180);
+    append_u(b"U after both", &mut log, 180);
+    last(&log, 296);
+    bytes(b"  the log", &log);
+}
+
+fn refusals() {
+    let mut log = [0xaau8; 130];
+    put(&mut log, 0, &s());
+    append_empty(b"a type of 3", 3, &mut log, 64);
+    append_empty(b"behind a part of a record", 0, &mut log, 63);
+    append_empty(b"behind bytes that are no record", 0, &mut log, 128);
+    append_empty(b"used past the buffer", 0, &mut log, 131);
+    append_u(b"116 bytes where 66 are left", &mut log, 64);
+    append_empty(b"a type of 3 in an empty log", 3, &mut log, 0);
+    append_empty(b"into a buffer of no bytes", 0, &mut [0u8; 0], 0);
+    show_log(&log);
+}
+
+fn show_log(log: &[u8; 130]) {
+    bytes(b"  the log", log);
 }
 
 fn last_number() {
-    let mut log = [255u8; 128];
+    let mut log = [0xaau8; 128];
     writer::write(
-        numbers(4294967295, 0, 0, 0),
+        numbers(0xffff_ffff, 0, 0, 0),
         b"",
         b"",
         b"",
@@ -49,11 +90,13 @@ fn last_number() {
         b"",
         &mut log,
     );
-    show(b"append after 4294967295: ", &mut log, 64);
-    show_last(b"its number and start: ", &log, 128);
+    append_empty(b"after number 4294967295", 0, &mut log, 64);
+    last(&log, 128);
 }
 
 pub fn appending() {
-    fill_log();
+    topic(b"appending");
+    grow();
+    refusals();
     last_number();
 }

@@ -1,129 +1,283 @@
-// The samples that are written: each line says the refusal and how much was written.
+// Writing: the refusal, how much was written, and the output.
 
+use crate::reading::refusal_back;
+use crate::records::numbers;
+use crate::records::numbers_of_u;
+use crate::records::part;
+use crate::show::bytes;
+use crate::show::line;
+use crate::show::topic;
 use format::Fields;
-use libc::STDOUT_FILENO;
 
-// An event's numbers, those that are not given 0.
-pub fn numbers(
-    record_number: u32,
-    event_type: u16,
-    num_strings: u16,
-    reserved_flags: u16,
-) -> Fields {
+// The numbers of U.
+fn fields_of_u() -> Fields {
+    let f = numbers_of_u();
     Fields {
-        record_number: record_number,
-        time_generated: 0,
-        time_written: 0,
-        event_id: 0,
-        event_type: event_type,
-        num_strings: num_strings,
-        event_category: 0,
-        reserved_flags: reserved_flags,
+        record_number: 9,
+        time_generated: f.time_generated,
+        time_written: f.time_written,
+        event_id: f.event_id,
+        event_type: f.event_type,
+        num_strings: f.num_strings,
+        event_category: f.event_category,
+        reserved_flags: f.reserved_flags,
     }
 }
 
-// Writes what was asked, and two numbers.
-pub fn line(what: &[u8], a: u64, b: u64) {
-    io::write_all(STDOUT_FILENO, what);
-    io::print_decimal(STDOUT_FILENO, a);
-    io::write_all(STDOUT_FILENO, b" ");
-    io::print_decimal(STDOUT_FILENO, b);
-    io::write_all(STDOUT_FILENO, b"\n");
-}
-
-// Writes T with these numbers, "Scale" as its source and "T1" as its computer.
-fn write_t(f: Fields, out: &mut [u8]) -> format::Written {
-    let source = [83u8, 0, 99, 0, 97, 0, 108, 0, 101, 0];
-    let computer = [84u8, 0, 49, 0];
-    let sid = [1u8, 1, 0, 0, 0, 0, 0, 0, 0, 0, 0, 0];
-    let strings = [79u8, 0, 75, 0, 0, 0];
-    writer::write(f, &source, &computer, &sid, &strings, &[0u8; 3], out)
-}
-
-fn show_t(what: &[u8], f: Fields, out: &mut [u8]) {
-    let w = write_t(f, out);
-    line(what, w.refusal as u64, w.length as u64);
-}
-
-// Where the parts of the record at the start of s lie.
-fn show_parts(s: &[u8]) {
-    match record::step(s, 0) {
-        format::Step::Found(a) => {
-            line(b"SID and strings: ", a.sid.at as u64, a.strings.at as u64);
-            line(
-                b"data and Length: ",
-                a.event_data.at as u64,
-                a.length as u64,
-            );
-        }
-        format::Step::Refused { number: k, at: p } => line(b"refused: ", k as u64, p as u64),
-    }
-}
-
-// Empty names, so many empty strings.
-fn show_strings(what: &[u8], count: u16, strings: &[u8], out: &mut [u8]) {
-    let w = writer::write(numbers(7, 0, count, 0), b"", b"", b"", strings, b"", out);
-    line(what, w.refusal as u64, w.length as u64);
-}
-
-// A source name and data.
-fn show_long(what: &[u8], source: &[u8], bytes: &[u8], out: &mut [u8]) {
-    let w = writer::write(numbers(7, 0, 0, 0), source, b"", b"", b"", bytes, out);
-    line(what, w.refusal as u64, w.length as u64);
-}
-
-fn write_numbers() {
-    let mut out = [255u8; 104];
-    show_t(b"write T: ", numbers(8, 0, 1, 0), &mut out);
-    show_parts(&out);
-    show_t(b"write T with type 32: ", numbers(8, 32, 1, 0), &mut out);
-    show_t(b"write T with type 16: ", numbers(8, 16, 1, 0), &mut out);
-    show_t(
-        b"write T with flags 0x8000: ",
-        numbers(8, 0, 1, 0x8000),
-        &mut out,
+// Writes the event into a buffer of 120 bytes.
+fn write(
+    what: &[u8],
+    f: Fields,
+    source: &[u8],
+    computer: &[u8],
+    sid: &[u8],
+    strings: &[u8],
+    event_data: &[u8],
+) {
+    let mut out = [0xaau8; 120];
+    let w = writer::write(f, source, computer, sid, strings, event_data, &mut out);
+    line(
+        what,
+        &[
+            w.refusal as u64,
+            w.length as u64,
+            event::refusal(f, source, computer, sid, strings, event_data) as u64,
+        ],
     );
-    show_t(
-        b"write T with flags 0x4000: ",
-        numbers(8, 0, 1, 0x4000),
-        &mut out,
-    );
-    show_t(b"write T with two strings: ", numbers(8, 0, 2, 0), &mut out);
-    show_t(
-        b"write T into 103 bytes: ",
+    bytes(b"  the output", &out);
+}
+
+fn records() {
+    write(b"S", numbers(7, 0, 0, 0), b"", b"", b"", b"", b"");
+    write(
+        b"T",
         numbers(8, 0, 1, 0),
-        &mut [255u8; 103],
+        b"S\0c\0a\0l\0e\0",
+        b"T\x001\0",
+        b"\x01\x01\0\0\0\0\0\0\0\0\0\0",
+        b"O\0K\0\0\0",
+        b"\0\0\0",
+    );
+    write(
+        b"U",
+        fields_of_u(),
+        b"P\0a\0n\0s\0",
+        b"K\0",
+        b"\x01\x02\0\0\0\0\0\x05\x15\0\0\0\x20\x02\0\0",
+        b"A\0\0\0\0\0T\0a\0r\0e\0\0\0",
+        b"\xd1\xd2\xd3\xd4\xd5",
     );
 }
 
-fn write_long() {
-    let mut out = [255u8; 65536];
-    show_strings(b"write 256 strings: ", 256, &[0u8; 512], &mut out);
-    show_strings(b"write 257 strings: ", 257, &[0u8; 514], &mut out);
-    show_long(
-        b"write Length 65532: ",
-        &[1u8; 4028],
-        &[0u8; 61440],
-        &mut out,
+// One part of an event that has no other.
+fn event_of(
+    what: &[u8],
+    f: Fields,
+    source: &[u8],
+    computer: &[u8],
+    sid: &[u8],
+    strings: &[u8],
+    event_data: &[u8],
+) {
+    let mut out = [0xaau8; 80];
+    let w = writer::write(f, source, computer, sid, strings, event_data, &mut out);
+    line(what, &[w.refusal as u64, w.length as u64]);
+    show_start(&out);
+}
+
+fn show_start(out: &[u8; 80]) {
+    bytes(b"  the output's start", part(out, 0, 4));
+}
+
+fn numbers_refused() {
+    event_of(b"type 3", numbers(7, 3, 0, 0), b"", b"", b"", b"", b"");
+    event_of(b"type 16", numbers(7, 16, 0, 0), b"", b"", b"", b"", b"");
+    event_of(b"type 32", numbers(7, 32, 0, 0), b"", b"", b"", b"", b"");
+    event_of(
+        b"flags 0x4000",
+        numbers(7, 0, 0, 0x4000),
+        b"",
+        b"",
+        b"",
+        b"",
+        b"",
     );
-    show_long(
-        b"write Length 65536: ",
-        &[1u8; 4032],
-        &[0u8; 61440],
-        &mut out,
+    event_of(
+        b"flags 0x8000 with a string",
+        numbers(7, 0, 1, 0x8000),
+        b"",
+        b"",
+        b"",
+        b"\0\0",
+        b"",
     );
-    show_long(b"write 61440 bytes of data: ", b"", &[0u8; 61440], &mut out);
-    show_long(b"write 61441 bytes of data: ", b"", &[0u8; 61441], &mut out);
-    show_long(
-        b"write 61441 bytes of data, too long: ",
+    event_of(
+        b"type 3, flags 1",
+        numbers(7, 3, 0, 1),
+        b"",
+        b"",
+        b"",
+        b"",
+        b"",
+    );
+    event_of(
+        b"257 strings",
+        numbers(7, 0, 257, 0),
+        b"",
+        b"",
+        b"",
+        b"",
+        b"",
+    );
+    event_of(
+        b"flags 1, 257 strings",
+        numbers(7, 0, 257, 1),
+        b"",
+        b"",
+        b"",
+        b"",
+        b"",
+    );
+}
+
+fn names_refused() {
+    let f = numbers(7, 0, 0, 0);
+    event_of(b"a source name of 3 bytes", f, b"A\0B", b"", b"", b"", b"");
+    event_of(
+        b"a source name with a zero unit",
+        f,
+        b"A\0\0\0B\0",
+        b"",
+        b"",
+        b"",
+        b"",
+    );
+    event_of(
+        b"a source name that ends in a zero unit",
+        f,
+        b"A\0\0\0",
+        b"",
+        b"",
+        b"",
+        b"",
+    );
+    event_of(b"a computer name of 1 byte", f, b"", b"A", b"", b"", b"");
+    event_of(
+        b"a computer name that is a zero unit",
+        f,
+        b"",
+        b"\0\0",
+        b"",
+        b"",
+        b"",
+    );
+    event_of(
+        b"a SID of 7 bytes",
+        f,
+        b"",
+        b"",
+        b"\x01\0\0\0\0\0\0",
+        b"",
+        b"",
+    );
+    event_of(
+        b"a SID of 8 bytes",
+        f,
+        b"",
+        b"",
+        b"\x01\0\0\0\0\0\0\0",
+        b"",
+        b"",
+    );
+    event_of(
+        b"a SID with revision 2",
+        f,
+        b"",
+        b"",
+        b"\x02\0\0\0\0\0\0\0",
+        b"",
+        b"",
+    );
+}
+
+fn strings_refused() {
+    let two = numbers(7, 0, 2, 0);
+    event_of(b"2 strings", two, b"", b"", b"", b"A\0\0\0\0\0", b"");
+    event_of(b"2 strings, 1 given", two, b"", b"", b"", b"A\0\0\0", b"");
+    event_of(
+        b"2 strings, 3 given",
+        two,
+        b"",
+        b"",
+        b"",
+        b"A\0\0\0\0\0\0\0",
+        b"",
+    );
+    event_of(
+        b"2 strings, one not ended",
+        two,
+        b"",
+        b"",
+        b"",
+        b"A\0\0\0B\0",
+        b"",
+    );
+    event_of(
+        b"2 strings and a byte",
+        two,
+        b"",
+        b"",
+        b"",
+        b"A\0\0\0\0\0B",
+        b"",
+    );
+    event_of(
+        b"no strings, 1 given",
+        numbers(7, 0, 0, 0),
+        b"",
+        b"",
+        b"",
+        b"\0\0",
+        b"",
+    );
+}
+
+// A source name and data, into a buffer that is long enough for every record.
+fn long(what: &[u8], source: &[u8], event_data: &[u8], out: &mut [u8]) {
+    let w = writer::write(numbers(7, 0, 0, 0), source, b"", b"", b"", event_data, out);
+    line(what, &[w.refusal as u64, w.length as u64]);
+    if w.refusal == 0 {
+        line(
+            b"  read again, and from the rear",
+            &[
+                record::refusal(out, 0) as u64,
+                refusal_back(out, w.length) as u64,
+            ],
+        );
+    }
+}
+
+fn lengths_refused() {
+    let mut out = [0u8; 65540];
+    long(b"Length 65532", &[1u8; 4028], &[0u8; 61440], &mut out);
+    long(b"Length 65536", &[1u8; 4032], &[0u8; 61440], &mut out);
+    long(b"61441 bytes of data", b"", &[0u8; 61441], &mut out);
+    long(
+        b"61441 bytes of data, Length over the limit",
         &[1u8; 4032],
         &[0u8; 61441],
         &mut out,
     );
-    show_long(b"write a name of 3 bytes: ", &[1u8; 3], b"", &mut out);
+    long(b"68 bytes into 68", b"A\0B\0", b"", &mut [0u8; 68]);
+    long(b"68 bytes into 67", b"A\0B\0", b"", &mut [0u8; 67]);
+    long(b"64 bytes into none", b"", b"", &mut [0u8; 0]);
 }
 
 pub fn writing() {
-    write_numbers();
-    write_long();
+    topic(b"writing");
+    records();
+    numbers_refused();
+    names_refused();
+    strings_refused();
+    lengths_refused();
 }

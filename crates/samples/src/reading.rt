@@ -1,0 +1,298 @@
+// Reading: records at a place and from the rear, their refusals, their parts and their strings.
+
+use crate::published::published;
+use crate::records::log;
+use crate::records::part;
+use crate::records::s;
+use crate::records::t;
+use crate::show::bytes;
+use crate::show::line;
+use crate::show::topic;
+use format::Record;
+use format::Step;
+use stores::put;
+
+// Start and Length, the numbers, and where the parts lie.
+pub fn show_record(what: &[u8], a: Record) {
+    let f = a.fields;
+    line(what, &[0, a.start as u64, a.length as u64]);
+    line(
+        b"  number, times, event, type, strings, category, flags",
+        &[
+            f.record_number as u64,
+            f.time_generated as u64,
+            f.time_written as u64,
+            f.event_id as u64,
+            f.event_type as u64,
+            f.num_strings as u64,
+            f.event_category as u64,
+            f.reserved_flags as u64,
+        ],
+    );
+    line(
+        b"  names",
+        &[
+            a.source_name.at as u64,
+            a.source_name.len as u64,
+            a.computer_name.at as u64,
+            a.computer_name.len as u64,
+        ],
+    );
+    line(
+        b"  SID, strings and data",
+        &[
+            a.sid.at as u64,
+            a.sid.len as u64,
+            a.strings.at as u64,
+            a.strings.len as u64,
+            a.event_data.at as u64,
+            a.event_data.len as u64,
+        ],
+    );
+}
+
+// An array's type says its length, which nothing that is asked of it changes.
+fn step(what: &[u8], log: &[u8; 284], at: usize) {
+    show_step(what, record::step(log, at));
+}
+
+fn step_back(what: &[u8], log: &[u8; 284], end: usize) {
+    show_step(what, record::step_back(log, end));
+}
+
+fn show_step(what: &[u8], x: Step) {
+    match x {
+        Step::Found(a) => show_record(what, a),
+        Step::Refused { number: k, at: p } => line(what, &[k as u64, p as u64]),
+    }
+}
+
+// The refusal of the record that ends at a place.
+pub fn refusal_back(r: &[u8], end: usize) -> u32 {
+    match record::step_back(r, end) {
+        Step::Found(_) => 0,
+        Step::Refused { number: k, at: _ } => k,
+    }
+}
+
+// The refusals of the record that fills the buffer: of the step at its start, and of the step from its end.
+pub fn refusals(what: &[u8], r: &[u8]) {
+    line(
+        what,
+        &[
+            record::refusal(r, 0) as u64,
+            refusal_back(r, r.len()) as u64,
+        ],
+    );
+}
+
+// T with these bytes put over it from a place on.
+fn changed(what: &[u8], at: usize, u: &[u8]) {
+    let mut r = t();
+    put(&mut r, at, u);
+    refusals(what, &r);
+}
+
+fn steps() {
+    let log = log();
+    step(b"step at 0", &log, 0);
+    step(b"step at 64", &log, 64);
+    step(b"step at 168", &log, 168);
+    step(b"step at 1", &log, 1);
+    step(b"step at 284", &log, 284);
+    step(b"step at 285", &log, 285);
+    step(b"step at the last number", &log, 0xffff_ffff_ffff_ffff);
+}
+
+fn steps_back() {
+    let log = log();
+    step_back(b"step back at 284", &log, 284);
+    step_back(b"step back at 168", &log, 168);
+    step_back(b"step back at 64", &log, 64);
+    step_back(b"step back at 283", &log, 283);
+    step_back(b"step back at 63", &log, 63);
+    step_back(b"step back at 0", &log, 0);
+    step_back(b"step back at 285", &log, 285);
+}
+
+fn smallest() {
+    let s = s();
+    refusals(b"S without its last byte", part(&s, 0, 63));
+    refusals(b"S", &s);
+    refusals(b"no bytes", b"");
+}
+
+// 2 to 5.
+fn lengths() {
+    changed(b"T", 0, b"");
+    changed(b"T with Length 60", 0, b"\x3c");
+    changed(b"T with Length 102", 0, b"\x66");
+    changed(b"T with Length 108", 0, b"\x6c");
+    changed(b"T with Length 65536", 0, b"\0\0\x01");
+    changed(b"T with another signature", 4, b"M");
+    changed(b"T with Length2 100", 100, b"\x64");
+    changed(b"T with Length2 65536", 100, b"\0\0\x01");
+    changed(b"T with Length2 108", 100, b"\x6c");
+}
+
+// 6 to 8.
+fn numbers() {
+    changed(b"T with type 3", 24, b"\x03");
+    changed(b"T with type 16", 24, b"\x10");
+    changed(b"T with type 32", 24, b"\x20");
+    changed(b"T with type 256", 24, b"\0\x01");
+    changed(b"T with flags 1", 30, b"\x01");
+    changed(b"T with flags 0x4000", 30, b"\0\x40");
+    changed(b"T with flags 0x8000", 30, b"\0\x80");
+    changed(b"T with 257 strings", 26, b"\x01\x01");
+    changed(b"T with type 3 and flags 1", 24, b"\x03\0\x01\0\0\0\x01");
+    changed(b"T with flags 1 and 257 strings", 26, b"\x01\x01\0\0\x01");
+}
+
+// 9 and 10.
+fn names_and_sids() {
+    let mut r = s();
+    put(&mut r, 57, b"\x01");
+    refusals(b"S with a computer name that has no end", &r);
+    put(&mut r, 59, b"\x01");
+    refusals(b"S with a source name that has no end", &r);
+    changed(b"T with SID offset 77", 44, b"\x4d");
+    changed(b"T with SID offset 74", 44, b"\x4a");
+    changed(b"T with a SID of 16 bytes", 40, b"\x10");
+    changed(b"T with a SID of 28 bytes", 40, b"\x1c");
+    changed(b"T with a SID of 4294967292 bytes", 40, b"\xfc\xff\xff\xff");
+    changed(b"T with SID revision 2", 76, b"\x02");
+    changed(b"T with SID count 2", 77, b"\x02");
+    changed(b"T with no SID", 40, b"\0");
+}
+
+// 11 to 13.
+fn strings_and_data() {
+    changed(b"T with string offset 90", 36, b"\x5a");
+    changed(b"T with 2 strings", 26, b"\x02");
+    changed(b"T with 5 strings", 26, b"\x05");
+    changed(b"T with no strings", 26, b"\0");
+    changed(b"T with data offset 95", 52, b"\x5f");
+    changed(b"T with 7 bytes of data", 48, b"\x07");
+    changed(b"T with 6 bytes of data", 48, b"\x06");
+    changed(b"T with 2 bytes of data", 48, b"\x02");
+    changed(b"T with no data", 48, b"\0");
+    changed(b"T with 4294967295 bytes of data", 48, b"\xff\xff\xff\xff");
+}
+
+// S made 68 bytes long.
+fn longer_s() -> [u8; 68] {
+    let mut r = [0u8; 68];
+    put(&mut r, 0, &s());
+    put(&mut r, 0, b"\x44");
+    put(&mut r, 60, b"\0\0\0\0\x44");
+    r
+}
+
+fn sizes() {
+    let mut r = longer_s();
+    refusals(b"S with 68 bytes", &r);
+    // one string, "AB" without a zero unit before Length2
+    put(&mut r, 26, b"\x01");
+    put(&mut r, 36, b"\x3c");
+    put(&mut r, 60, b"A\0B\0");
+    refusals(b"S with a string that has no end", &r);
+    put(&mut r, 60, b"A\0\0\0");
+    refusals(b"S with a string", &r);
+}
+
+fn many(what: &[u8], r: &[u8; 580], n: usize) {
+    refusals(what, part(r, 0, n));
+}
+
+// So many empty strings, in a record of 576 bytes or of 580.
+fn many_strings() {
+    let mut r = [0u8; 580];
+    put(&mut r, 0, b"\x40\x02\0\0LfLe");
+    put(&mut r, 26, b"\0\x01");
+    put(&mut r, 36, b"\x3c");
+    put(&mut r, 572, b"\x40\x02");
+    many(b"256 strings", &r, 576);
+    put(&mut r, 0, b"\x44");
+    put(&mut r, 26, b"\x01");
+    put(&mut r, 572, b"\0\0\0\0\x44\x02");
+    many(b"257 strings", &r, 580);
+}
+
+fn large(what: &[u8], r: &[u8; 61508], n: usize) {
+    refusals(what, part(r, 0, n));
+}
+
+// Empty names: 61,440 bytes of data make 61,504 bytes, and 61,441 make 61,508.
+fn most_data() {
+    let mut r = [0u8; 61508];
+    put(&mut r, 0, b"\x40\xf0\0\0LfLe");
+    put(&mut r, 48, b"\0\xf0\0\0\x3c");
+    put(&mut r, 61500, b"\x40\xf0");
+    large(b"61440 bytes of data", &r, 61504);
+    put(&mut r, 0, b"\x44");
+    put(&mut r, 48, b"\x01");
+    put(&mut r, 61500, b"\0\0\0\0\x44\xf0");
+    large(b"61441 bytes of data", &r, 61508);
+}
+
+// Where string k of the record at a place of the log lies, its refusal, and its bytes.
+fn show_string(what: &[u8], log: &[u8; 284], at: usize, k: u32) {
+    let p = parts::string_part(log, at, k);
+    line(
+        what,
+        &[
+            parts::string_refusal(log, at, k) as u64,
+            p.at as u64,
+            p.len as u64,
+        ],
+    );
+    bytes(b"  its bytes", parts::string(log, at, k));
+}
+
+fn strings_by_number() {
+    let log = log();
+    show_string(b"string 0 of T", &log, 64, 0);
+    show_string(b"string 1 of T", &log, 64, 1);
+    show_string(b"string 0 of U", &log, 168, 0);
+    show_string(b"string 1 of U", &log, 168, 1);
+    show_string(b"string 2 of U", &log, 168, 2);
+    show_string(b"string 3 of U", &log, 168, 3);
+    show_string(b"string 4294967295 of U", &log, 168, 0xffff_ffff);
+    show_string(b"string 0 at 1", &log, 1, 0);
+}
+
+fn show_parts(what: &[u8], log: &[u8; 284], at: usize) {
+    bytes(what, parts::source_name(log, at));
+    bytes(b"  computer name", parts::computer_name(log, at));
+    bytes(b"  SID", parts::sid(log, at));
+    bytes(b"  data", parts::event_data(log, at));
+}
+
+fn shown_parts() {
+    let log = log();
+    show_parts(b"source name of S", &log, 0);
+    show_parts(b"source name of T", &log, 64);
+    show_parts(b"source name of U", &log, 168);
+    show_parts(b"source name at 1", &log, 1);
+    show_record(b"no record", parts::nothing());
+}
+
+pub fn reading() {
+    topic(b"steps, from the front and from the rear");
+    steps();
+    steps_back();
+    topic(b"refusals, from the front and from the rear");
+    smallest();
+    lengths();
+    numbers();
+    names_and_sids();
+    strings_and_data();
+    sizes();
+    many_strings();
+    most_data();
+    published();
+    topic(b"parts and strings");
+    shown_parts();
+    strings_by_number();
+}
