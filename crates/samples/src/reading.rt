@@ -173,6 +173,7 @@ fn strings_and_data() {
     changed(b"T with 5 strings", 26, b"\x05");
     changed(b"T with no strings", 26, b"\0");
     changed(b"T with data offset 95", 52, b"\x5f");
+    changed(b"T with data offset 4294967295", 52, b"\xff\xff\xff\xff");
     changed(b"T with 7 bytes of data", 48, b"\x07");
     changed(b"T with 6 bytes of data", 48, b"\x06");
     changed(b"T with 2 bytes of data", 48, b"\x02");
