@@ -206,9 +206,10 @@ eventlog_answer eventlog_read(eventlog_handle h, const uint8_t *log, size_t log_
 /* Writes the listing of a batch over the start of the output and answers the length of the text: a line
  * `records N`, then for each record from the front a line `start Length number`. Where eventlog_walk refuses
  * the batch, the text is only the line `refused K at P`, the refusal and the place of the record, and the call
- * still answers refusal 0. Numbers are decimal; each line ends with one newline, and no zero byte follows. The
- * output must be at least 64 bytes longer than the batch: a shorter one is refused with 15 and length 0, before
- * the batch is walked, and left as it was. Else the output past the text is left. */
+ * still answers refusal 0. Numbers are decimal; each line ends with one newline, and no zero byte follows. An
+ * output that is shorter than the text is refused with 15 and length 0, and left as it was. Else the output past
+ * the text is left. A line is at most 63 bytes long and its record at least 64, so that 64 bytes more than the
+ * batch are always enough. */
 eventlog_written eventlog_listing(const uint8_t *s, size_t s_len, uint8_t *out, size_t out_len);
 
 #ifdef __cplusplus

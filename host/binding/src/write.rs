@@ -35,9 +35,10 @@ pub fn append(log: &mut [u8], used: usize, e: &Event<'_>) -> Result<usize, Refus
     Refused::unless(appended.refusal, appended.used)
 }
 
-/// Writes the listing of a batch as text at the start of `out`, which must be
-/// 64 bytes longer than the batch. Returns the text's length; a shorter `out`
-/// is refused with [`Refused::Output`] and left unchanged.
+/// Writes the listing of a batch as text at the start of `out`. Returns the
+/// text's length; an `out` that is shorter than the text is refused with
+/// [`Refused::Output`] and left unchanged. 64 bytes more than the batch are
+/// always enough.
 pub fn listing(s: &[u8], out: &mut [u8]) -> Result<usize, Refused> {
     let written = ffi::listing(s, out);
     Refused::unless(written.refusal, written.length)
