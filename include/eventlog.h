@@ -135,7 +135,7 @@ extern "C" {
 #define EVENTLOG_SIGNATURE 0x654C664Cu
 
 /* Limits: a record's Length, its strings, its SID's and its data's bytes; the size that a read may ask; how much
- * longer than the batch a listing's output has to be; a call's stack. */
+ * more than the batch is always enough for a listing's output; a call's stack. */
 #define EVENTLOG_MIN_LENGTH 64u
 #define EVENTLOG_MAX_LENGTH 65532u
 #define EVENTLOG_MAX_STRINGS 256u
@@ -332,10 +332,10 @@ eventlog_answer eventlog_read(eventlog_handle handle, const uint8_t *log, size_t
 /* Writes the listing of a batch over the start of the output and answers the length of the text: a line
  * `records N`, then for each record from the front a line `start Length number`. Where eventlog_walk refuses
  * the batch, the text is only the line `refused K at P`, the refusal and the place of the record, and the call
- * still answers refusal 0. Numbers are decimal; each line ends with one newline, and no zero byte follows. The
- * output must be at least EVENTLOG_LISTING_ROOM bytes longer than the batch: a shorter one is refused with 15 and
- * length 0, before the batch is walked, and left as it was. Else the output past the text is left.
- * Cost: a walk, and then a step for each record. */
+ * still answers refusal 0. Numbers are decimal; each line ends with one newline, and no zero byte follows. An
+ * output that is shorter than the text is refused with 15 and length 0, and left as it was. Else the output past
+ * the text is left. EVENTLOG_LISTING_ROOM bytes more than the batch are always enough.
+ * Cost: the records are stepped over twice, once to measure the text. */
 eventlog_written eventlog_listing(const uint8_t *buffer, size_t buffer_len, uint8_t *out, size_t out_len);
 
 /* ---- written here, in C: not proved ---- */

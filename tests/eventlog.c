@@ -726,14 +726,14 @@ static void listing_answers(void)
         uint32_t refusal;
         const char *text;
     } rows[] = {
-        {__LINE__, END, END + 64, 0, "records 2\n0 64 7\n64 104 336794129\n"},
-        {__LINE__, END, END + 63, 15, ""},
-        {__LINE__, END - 1, END + 63, 0, "refused 3 at 64\n"},
-        {__LINE__, END - 1, END + 62, 15, ""},
+        {__LINE__, END, 34, 0, "records 2\n0 64 7\n64 104 336794129\n"},
+        {__LINE__, END, 33, 15, ""},
+        {__LINE__, END - 1, 16, 0, "refused 3 at 64\n"},
+        {__LINE__, END - 1, 15, 15, ""},
         {__LINE__, S_LENGTH, 256, 0, "records 1\n0 64 7\n"},
-        {__LINE__, 1, 65, 0, "refused 1 at 0\n"},
-        {__LINE__, 0, 64, 0, "records 0\n"},
-        {__LINE__, 0, 63, 15, ""},
+        {__LINE__, 1, 15, 0, "refused 1 at 0\n"},
+        {__LINE__, 0, 10, 0, "records 0\n"},
+        {__LINE__, 0, 9, 15, ""},
     };
     for (size_t i = 0; i < COUNT(rows); i++) {
         lend(256);
@@ -743,7 +743,7 @@ static void listing_answers(void)
         CHECK_AT(rows[i].line, w.length == strlen(rows[i].text));
         CHECK_AT(rows[i].line, memcmp(out, want, 256) == 0);
     }
-    eventlog_written w = eventlog_listing(NULL, 0, out, 64);
+    eventlog_written w = eventlog_listing(NULL, 0, out, 10);
     CHECK(w.refusal == 0 && w.length == 10 && memcmp(out, "records 0\n", 10) == 0);
     w = eventlog_listing(NULL, 0, NULL, 0);
     CHECK(w.refusal == 15 && w.length == 0);

@@ -115,7 +115,7 @@ static void limits(void)
     CHECK(r.status == EVENTLOG_STATUS_INVALID_PARAMETER);
     w = eventlog_listing(NULL, 0, out, EVENTLOG_LISTING_ROOM);
     CHECK(w.refusal == EVENTLOG_NOT_REFUSED);
-    w = eventlog_listing(NULL, 0, out, EVENTLOG_LISTING_ROOM - 1);
+    w = eventlog_listing(NULL, 0, out, 9);
     CHECK(w.refusal == EVENTLOG_REFUSED_OUTPUT);
 }
 

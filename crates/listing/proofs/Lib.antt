@@ -1,2 +1,2 @@
-mod Decimal
 mod Lines
+mod Pieces

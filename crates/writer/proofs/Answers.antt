@@ -2,19 +2,16 @@
 -- Assumes nothing.
 use mathlib.Core.Path.{_≡_, refl, sym, ap, _∙_}
 use mathlib.Core.Bool.{cond}
-use mathlib.Core.List.{List, _++_}
+use mathlib.Core.List.{List}
 use Prim.Native.Nat.{ℕ, zero, suc, _≤_, _<_}
-use native.Mathlib.Nat.{zero-add}
 use native.Mathlib.Omega.{arith}
-use lib.ListN.{length, drop}
-use lib.Dec.{leb}
-use borrow.Author.Tests.{le-leb, lt-leb}
-use Rattle.format.specs.Stores.{over}
+use lib.ListN.{length}
+use borrow.Author.Tests.{le-leb}
 use Rattle.format.specs.Layout.{maxLength, Event, size}
 use Rattle.format.specs.Writing.{outcome, writingAs, writtenSizes, written, eventRules, eventRefusal, writing}
 use Rattle.format.specs.Laws.Stores.{Stored}
 use Rattle.format.specs.Laws.Tests.{leb-means, met}
-use Rattle.format.specs.Laws.Writing.{fitting}
+use Rattle.format.specs.Laws.Writing.{short-refused, stored-written}
 use Rattle.event.specs.declared.places.Places.{Places}
 use Rattle.event.specs.Placing.{placesOf, noPlaces, placesIn, placesFor}
 use Rattle.writer.specs.Room.{Roomy}
@@ -52,22 +49,16 @@ module _ (e : Event) (k : ℕ) (same : k ≡ eventRefusal 2 e) (none : k ≤ 0) 
     long : z .length ≡ length (written 2 e)
     long = ap (λ (x : Places). x .length) placed ∙ sym (length-written e)
 
-    tested : writing 2 e out ≡ fitting (written 2 e) out (leb (length (written 2 e)) (length out))
+    tested : writing 2 e out ≡ writingAs 0 (written 2 e) out
     unfolding writing
     tested = ap (λ j. writingAs j (written 2 e) out) unrefused
 
     pub writing-short : length out < z .length → outcome (record { refusal = 15; length = 0 }) out ≡ writing 2 e out
-    writing-short h =
-        sym (tested ∙ ap (fitting (written 2 e) out) (lt-leb (length (written 2 e)) (length out) (omega (arith, h, long))))
+    writing-short h = short-refused (written 2 e) out long h ∙ sym tested
 
     pub roomy : z .length ≤ length out → Roomy z e (length out)
     roomy h = record { places = placed; short = short; fits = omega (arith, h, ap (λ (x : Places). x .length) placed) }
 
     pub writing-done : {r : ℕ} {m : List ℕ} → z .length ≤ length out → Stored out 0 (written 2 e) r m
         → outcome (record { refusal = 0; length = z .length }) m ≡ writing 2 e out
-    unfolding over
-    writing-done h x =
-        sym
-        (tested
-        ∙ ap (fitting (written 2 e) out) (le-leb (length (written 2 e)) (length out) (omega (arith, h, long)))
-        ∙ (λ i. record { answer = record { refusal = 0; length = sym long i }; output = (ap (λ n. written 2 e ++ drop n out) (sym (zero-add (length (written 2 e)))) ∙ sym (x .bytes)) i }))
+    writing-done h x = stored-written (written 2 e) out long h x ∙ sym tested

@@ -74,12 +74,12 @@ pub const MAX_DATA: usize = 61_440;
 /// ```
 pub const MAX_READ: usize = 524_287;
 
-/// How much longer than the batch a listing's output has to be, in bytes.
+/// So many bytes more than the batch are always enough for a listing's output.
 ///
 /// ```
 /// use eventlog::{listing, Refusal, LISTING_ROOM};
 /// assert_eq!(listing(&[], &mut [0; LISTING_ROOM]), Ok("records 0\n"));
-/// assert_eq!(listing(&[], &mut [0; LISTING_ROOM - 1]), Err(Refusal::Output));
+/// assert_eq!(listing(&[], &mut [0; 9]), Err(Refusal::Output));
 /// ```
 pub const LISTING_ROOM: usize = 64;
 

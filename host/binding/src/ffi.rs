@@ -430,7 +430,8 @@ mod tests {
         }
         assert_eq!(write(NUMBER, &EVENT, &mut out[..LENGTH - 1]), refused(15));
         let log = record();
-        assert_eq!(listing(&log, &mut out[..LENGTH + 63]), refused(15));
+        let text = listing(&log, &mut [0; 200]).length;
+        assert_eq!(listing(&log, &mut out[..text - 1]), refused(15));
         assert_eq!(out, [0xEE; 200]);
     }
 

@@ -106,8 +106,9 @@ pub fn append(log: &mut [u8], used: usize, event: &Event<'_>) -> Result<usize, R
 ///
 /// # Errors
 ///
-/// [`Refusal::Output`], where `out` is not [`LISTING_ROOM`](crate::LISTING_ROOM)
-/// bytes longer than the batch. Then it is left as it was.
+/// [`Refusal::Output`], where `out` is shorter than the text. Then it is left as
+/// it was. [`LISTING_ROOM`](crate::LISTING_ROOM) bytes more than the batch are
+/// always enough.
 ///
 /// ```
 /// use eventlog::{listing, write, Event, Refusal};
@@ -116,7 +117,8 @@ pub fn append(log: &mut [u8], used: usize, event: &Event<'_>) -> Result<usize, R
 /// write(7, &Event::default(), &mut batch)?;
 /// assert_eq!(listing(&batch, &mut out)?, "records 1\n0 64 7\n");
 /// assert_eq!(listing(&batch[..63], &mut out)?, "refused 1 at 0\n");
-/// assert_eq!(listing(&batch, &mut out[1..]), Err(Refusal::Output));
+/// assert_eq!(listing(&batch, &mut out[..17])?, "records 1\n0 64 7\n");
+/// assert_eq!(listing(&batch, &mut out[..16]), Err(Refusal::Output));
 /// # Ok::<(), Refusal>(())
 /// ```
 pub fn listing<'o>(buffer: &[u8], out: &'o mut [u8]) -> Result<&'o str, Refusal> {

@@ -576,19 +576,27 @@ impl Check {
         self.out = out;
     }
 
-    /// The listing into an output of a length.
-    pub fn listing(&mut self, s: &[u8], out_len: usize) {
+    /// The listing into outputs of the text's own length, of one byte less, and
+    /// of another length.
+    pub fn listing(&mut self, s: &[u8], other: usize) {
+        let text = listing_text(s);
+        assert!(text.len() <= s.len() + 64);
+        for out_len in [text.len(), text.len() - 1, other] {
+            self.listing_into(s, &text, out_len);
+        }
+    }
+
+    fn listing_into(&mut self, s: &[u8], text: &str, out_len: usize) {
         let mut out = self.outputs(out_len);
         let proved = match eventlog::listing(s, &mut out[0]) {
             Ok(text) => Ok(text.len()),
             Err(refusal) => Err(refusal.number()),
         };
         let full = FULL.contains(&s.len());
-        let plain = if out_len < s.len() + 64 {
-            self.count_case(Case::FullListingShort, full && out_len + 1 == s.len() + 64);
+        let plain = if out_len < text.len() {
+            self.count_case(Case::FullListingShort, full && out_len + 1 == text.len());
             Err(15)
         } else {
-            let text = listing_text(s);
             out[1][..text.len()].copy_from_slice(text.as_bytes());
             let (long, records) = (s.len() > FAR, text.starts_with("records"));
             self.count_case(Case::LongListing, long && records);

@@ -163,8 +163,7 @@ fn logs(rng: &mut Random, check: &mut Check) {
 fn whole_log(rng: &mut Random, check: &mut Check, log: &[u8], places: &[usize]) {
     check.buffer(log);
     check.records(log);
-    let less = rng.below(100);
-    check.listing(log, (log.len() + 64).saturating_sub(less));
+    check.listing(log, rng.below(log.len() + 65));
     for &at in places {
         check.at(log, at);
         check.parts(log, at);
