@@ -10,6 +10,7 @@ use crate::show::line;
 use crate::show::topic;
 use eventlog::ReadHandle;
 use eventlog::Stepped;
+use format::Part;
 
 fn stepped(what: &[u8], x: Stepped) {
     line(what, &[x.refusal as u64, x.at as u64]);
@@ -61,6 +62,26 @@ fn strings() {
     string(b"string 0 at 1", 1, 0);
 }
 
+fn next_string(what: &[u8], log: &[u8; 284], run: Part, place: usize) {
+    let x = eventlog::eventlog_next_string(log, run, place);
+    line(
+        what,
+        &[
+            x.refusal as u64,
+            x.string.at as u64,
+            x.string.len as u64,
+            x.next as u64,
+        ],
+    );
+}
+
+fn next_strings() {
+    let log = log();
+    let run = Part { at: 256, len: 6 };
+    next_string(b"next string at 260", &log, run, 260);
+    next_string(b"next string at 262", &log, run, 262);
+}
+
 fn walks(what: &[u8], log: &[u8; 284], end: usize) {
     let s = part(log, 0, end);
     let w = eventlog::eventlog_walk(s);
@@ -70,8 +91,10 @@ fn walks(what: &[u8], log: &[u8; 284], end: usize) {
         &[
             w.count as u64,
             w.refusal as u64,
+            w.at as u64,
             b.count as u64,
             b.refusal as u64,
+            b.at as u64,
         ],
     );
 }
@@ -152,6 +175,7 @@ pub fn interface() {
     topic(b"the calls for C");
     steps();
     strings();
+    next_strings();
     walks(b"walks", &log, 284);
     walks(b"walks without the last byte", &log, 283);
     writes();

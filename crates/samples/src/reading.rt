@@ -8,6 +8,7 @@ use crate::records::t;
 use crate::show::bytes;
 use crate::show::line;
 use crate::show::topic;
+use format::Part;
 use format::Record;
 use format::Step;
 use stores::put;
@@ -263,6 +264,77 @@ fn strings_by_number() {
     show_string(b"string 0 at 1", &log, 1, 0);
 }
 
+// The string that starts at a place of a run of the log: its refusal, where it lies, and the place after it.
+fn show_next(what: &[u8], log: &[u8; 284], run: Part, place: usize) {
+    let x = strings::next_string(log, run, place);
+    line(
+        what,
+        &[
+            x.refusal as u64,
+            x.string.at as u64,
+            x.string.len as u64,
+            x.next as u64,
+        ],
+    );
+}
+
+// Places of U's run, which lies from 256 to 272.
+fn strings_in_turn() {
+    let log = log();
+    let run = Part { at: 256, len: 16 };
+    show_next(b"next string at 256", &log, run, 256);
+    show_next(b"next string at 260", &log, run, 260);
+    show_next(b"next string at 262", &log, run, 262);
+    show_next(b"next string at 272", &log, run, 272);
+    show_next(b"next string at 255", &log, run, 255);
+    show_next(b"next string at 257", &log, run, 257);
+    show_next(b"next string at 263", &log, run, 263);
+    show_next(b"next string at 271", &log, run, 271);
+    show_next(
+        b"next string at the last number",
+        &log,
+        run,
+        0xffff_ffff_ffff_ffff,
+    );
+}
+
+// Runs that a step did not show.
+fn runs_of_strings() {
+    let log = log();
+    let last = 0xffff_ffff_ffff_ffff;
+    show_next(
+        b"a run that ends in a zero unit",
+        &log,
+        Part { at: 256, len: 15 },
+        262,
+    );
+    show_next(
+        b"a run to the buffer's end",
+        &log,
+        Part { at: 256, len: 28 },
+        272,
+    );
+    show_next(
+        b"a run past the buffer's end",
+        &log,
+        Part { at: 256, len: 29 },
+        256,
+    );
+    show_next(b"a run of no bytes", &log, Part { at: 60, len: 0 }, 60);
+    show_next(
+        b"a run at the last number",
+        &log,
+        Part { at: last, len: 1 },
+        last,
+    );
+    show_next(
+        b"a run as long as the last number",
+        &log,
+        Part { at: 256, len: last },
+        256,
+    );
+}
+
 fn show_parts(what: &[u8], log: &[u8; 284], at: usize) {
     bytes(what, parts::source_name(log, at));
     bytes(b"  computer name", parts::computer_name(log, at));
@@ -296,4 +368,6 @@ pub fn reading() {
     topic(b"parts and strings");
     shown_parts();
     strings_by_number();
+    strings_in_turn();
+    runs_of_strings();
 }
