@@ -1,6 +1,6 @@
-//! The bench samples S and T byte by byte, for the tests of both libraries.
+//! The samples S and T byte by byte, for the tests of both libraries.
 
-/// Both names empty, no SID, strings or data, number 7.
+/// S (Rule 11.1): number 7, and no part but two empty names.
 #[rustfmt::skip]
 pub const S: [u8; 64] = [
     0x40, 0, 0, 0, // Length 64
@@ -24,8 +24,7 @@ pub const S: [u8; 64] = [
     0x40, 0, 0, 0, // 60 Length2
 ];
 
-/// Source "Scale", computer "T1", SID of 12 bytes, one string "OK", 3 data
-/// bytes, number 8.
+/// T (Rule 11.2): number 8, and every part.
 #[rustfmt::skip]
 pub const T: [u8; 104] = [
     0x68, 0, 0, 0, // Length 104

@@ -12,10 +12,12 @@
  * stack, looks how much of the paint is gone, and holds every call to half of that number. A listing goes
  * deeper with each digit of a number; there the longest has ten of the twenty that a number can have.
  *
- * Texts are UTF-16, little-endian: a unit is two bytes, the low one first. Units are not judged, so that
- * a text may hold half of a surrogate pair. Numbers in a record are little-endian too.
+ * The rules that are named here by their numbers stand in docs/SPECIFICATION.md.
  *
- * A record, places counted from its start:
+ * Texts are UTF-16: a unit has two bytes, the low one first, as all numbers in a record have it. Units are not
+ * judged, so that a text may hold half of a surrogate pair (Rules 1.6, 3.2 and 3.4).
+ *
+ * A record, places counted from its start (section 2):
  *
  *    place  bytes  field
  *        0      4  Length, of the whole record: 64 to 65,532, a multiple of 4
@@ -34,18 +36,18 @@
  *       44      4  UserSidOffset
  *       48      4  DataLength
  *       52      4  DataOffset
- *       56         SourceName, ended by its first zero unit
- *                  Computername, ended by its first zero unit
- *                  a gap of 0 to 3 bytes, up to a multiple of 4
+ *       56         SourceName and its zero unit
+ *                  Computername and its zero unit
+ *                  a gap, at most 3 bytes, to a multiple of 4
  *                  the SID
- *                  the strings, each ended by its zero unit
+ *                  the strings, each with its zero unit
  *                  the data
- *                  a gap of 0 to 3 bytes, up to a multiple of 4
- *               4  Length2, the same number as Length
+ *                  a gap, at most 3 bytes, to a multiple of 4
+ *               4  Length2, which holds the number of Length
  *
- * Gaps may hold any bytes. A SID is 8 + 4n bytes, n from 0 to 15, with first byte 1 and second byte n. SID,
- * strings and data may be absent (length or count 0); then their offset is ignored. A present part's offset
- * is the place where this order puts it.
+ * A gap has any bytes in it. A SID with n sub-authorities, n from 0 to 15, has 8 + 4n bytes; its first byte is 1
+ * and its second n. SID, strings and data may be absent, their length or count being 0; then their offset may be
+ * any number, else it is the part's place in this order.
  *
  * Cost: a record's names and strings are looked at unit by unit, its data and gaps not at all. So a call is
  * linear in the names and strings of the records that it looks at, and in the bytes that it copies; each says
@@ -64,11 +66,11 @@ extern "C" {
 
 #define EVENTLOG_VERSION "0.1.0"
 
-/* Why a call refuses. Reading a record refuses it with the first of 1 to 13 that applies. */
+/* Why a call refuses (Rule 4.2). Reading tests 1 to 13 in this order, and the first test that fails decides. */
 #define EVENTLOG_NOT_REFUSED 0u
-/* The place is past the end, or fewer than 64 bytes stand there. */
+/* The place is past the buffer's end, or too few bytes for any record stand there. */
 #define EVENTLOG_REFUSED_PLACE 1u
-/* Length is under 64, over 65,532 or not a multiple of 4. */
+/* Length is no multiple of 4, or not within its limits (Rule 2.3). */
 #define EVENTLOG_REFUSED_LENGTH 2u
 /* Length is more than the bytes left. */
 #define EVENTLOG_REFUSED_CUT_SHORT 3u
@@ -76,22 +78,22 @@ extern "C" {
 #define EVENTLOG_REFUSED_SIGNATURE 4u
 /* Length2 differs from Length. */
 #define EVENTLOG_REFUSED_LENGTH2 5u
-/* The event type is not 0, 1, 2, 4, 8 or 16. */
+/* The event type is none of the six (Rule 2.8). */
 #define EVENTLOG_REFUSED_EVENT_TYPE 6u
 /* The flags are not 0 or 0x8000. */
 #define EVENTLOG_REFUSED_FLAGS 7u
 /* There are more than 256 strings. */
 #define EVENTLOG_REFUSED_STRING_COUNT 8u
-/* A name has no zero unit before Length2; for writing, it is not whole units without a zero one. */
+/* A name does not end before Length2 (Rule 3.5); for writing, it is not whole units without a zero one. */
 #define EVENTLOG_REFUSED_NAME 9u
-/* A SID is present: its length, offset, first or second byte is wrong, or it runs into Length2. */
+/* A SID is present, and its form, its offset or its end is wrong (Rule 4.6). */
 #define EVENTLOG_REFUSED_SID 10u
-/* Strings are present: their offset is wrong, or one has no zero unit before Length2; for writing, they are
- * not as many as said. */
+/* Strings are present, and their offset is wrong or one does not end before Length2 (Rule 4.7); for writing,
+ * they are not as many as said. */
 #define EVENTLOG_REFUSED_STRINGS 11u
-/* Data is present: it is over 61,440 bytes, its offset is wrong, or it runs into Length2. */
+/* Data is present, and it is too long, or its offset or its end is wrong (Rule 4.8). */
 #define EVENTLOG_REFUSED_DATA 12u
-/* Length is not the laid-out size. */
+/* Length is not the size that the parts add up to (Rule 2.20). */
 #define EVENTLOG_REFUSED_SIZE 13u
 /* The log does not end with a good record. */
 #define EVENTLOG_REFUSED_LOG_END 14u
@@ -176,9 +178,9 @@ typedef struct {
     size_t len;
 } eventlog_part;
 
-/* A record: where it starts, its Length, its fields and where its parts lie in the buffer. Names lie without
- * their zero unit, the strings as one run with their zero units; an absent part lies where the order would put
- * it, with length 0. */
+/* A record: where it starts, its Length, its fields and where its parts lie in the buffer. A name lies without
+ * its zero unit, the strings lie with theirs, as one part; an absent part lies where the order would put it, with
+ * length 0. */
 typedef struct {
     size_t start;
     size_t length;
@@ -223,8 +225,8 @@ typedef struct {
     size_t boundary;
 } eventlog_handle;
 
-/* What a read answers: an NTSTATUS, 0 for success; bytes read; the next record's Length where it is longer than
- * the size asked, else 0; and the next handle. */
+/* What a read answers: an NTSTATUS, 0 for success; bytes read; the Length of a record that was too long for the
+ * size, else 0; and the next handle. */
 typedef struct {
     uint32_t status;
     size_t read;
@@ -238,8 +240,8 @@ typedef struct {
  * Cost: its names and strings are looked at twice, to judge and to show. */
 eventlog_stepped eventlog_step(const uint8_t *buffer, size_t buffer_len, size_t at);
 
-/* The record that ends at a place, or its refusal: 1 where the place is past the end or below 64; 2 and 3 judge
- * Length2 and the bytes before the place; then 4; 5 where Length differs from Length2; then 6 to 13.
+/* The record that ends at a place, or its refusal, 1 to 13: the bytes ahead are here those before the place, and
+ * Length2 says in 2 and 3 how many of them are the record (Rule 4.5).
  * Cost: as eventlog_step. */
 eventlog_stepped eventlog_step_back(const uint8_t *buffer, size_t buffer_len, size_t end);
 
@@ -257,27 +259,26 @@ eventlog_part eventlog_string(const uint8_t *buffer, size_t buffer_len, size_t a
  * Cost: as eventlog_step. */
 uint32_t eventlog_string_refusal(const uint8_t *buffer, size_t buffer_len, size_t at, uint32_t k);
 
-/* Walks a batch from the front, until it is used up (refusal 0) or a record is refused with 1 to 13. An empty
- * batch has no records and no refusal.
+/* The walk of a batch from the front, to its end (refusal 0) or to a record that is refused with 1 to 13. An
+ * empty batch has no records and no refusal.
  * Cost: as eventlog_refusal for each record. */
 eventlog_walked eventlog_walk(const uint8_t *buffer, size_t buffer_len);
 
-/* Walks a batch from the rear, until the front is reached (refusal 0) or a record is refused with 1 to 13, as
- * eventlog_step_back does it. Where one walk refuses, so does the other; their answers may differ.
+/* The walk of a batch from the rear, to its start (refusal 0) or to a record that eventlog_step_back refuses with
+ * 1 to 13. Where one walk refuses, so does the other; their answers may differ.
  * Cost: as eventlog_walk. */
 eventlog_walked eventlog_walk_back(const uint8_t *buffer, size_t buffer_len);
 
-/* Writes a record over the start of the output and answers its Length. Names are given without their zero
- * unit, the strings as one run with their zero units. An empty sid, strings or event_data means that the part is
- * absent. Gaps, ClosingRecordNumber and the offsets of absent parts are written as zero. Refused with the first
- * that applies:
+/* Writes a record over the start of the output and answers its Length (section 6). A name is given without its
+ * zero unit; strings is all the strings, each with its zero unit, one after another. An empty sid, strings or
+ * event_data means that the part is absent. Ignored bytes (Rule 2.21) become zero. Refused with the first of:
  *    6, 7, 8  as in reading;
- *    9  a name has an odd number of bytes, or a zero unit inside;
- *   10  sid is not empty and not a SID;
- *   11  strings is not exactly num_strings strings, each with its zero unit;
- *   12  event_data is longer than 61,440;
- *    2  Length would be over 65,532;
- *   15  the output is shorter than Length.
+ *    9  the bytes of a name are an odd number, or hold a zero unit;
+ *   10  sid has bytes and is no SID;
+ *   11  strings is something else than num_strings strings, each with its zero unit;
+ *   12  event_data has more bytes than EVENTLOG_MAX_DATA;
+ *    2  Length would be above EVENTLOG_MAX_LENGTH;
+ *   15  the output has no room for the record.
  * A refusal answers length 0 and leaves the output as it was; a success leaves the output past Length.
  * eventlog_write_event takes the same as a struct.
  * Cost: the names and strings are looked at once, and every byte is copied once. */
@@ -306,24 +307,24 @@ eventlog_appended eventlog_append(uint8_t *log, size_t log_len, size_t used, eve
 /* A handle that nothing was read with: kind 0, boundary 0. */
 eventlog_handle eventlog_fresh(void);
 
-/* Reads as many records as fit into the size asked, one after another, over the start of the output; it stops
- * before the first that does not fit or that refuses. The size is what a client asks for, and out_len is what
- * the caller has lent: a server checks the one against the other here, and nothing past the size is written,
- * however long the output is. Flags: EVENTLOG_SEQUENTIAL or EVENTLOG_SEEK, with EVENTLOG_FORWARDS or
- * EVENTLOG_BACKWARDS. Sequential goes on from the boundary; a fresh handle starts at byte 0 forwards and at the
- * log's end backwards. Seek makes the first record from the front with the record number the next one, whatever
- * the boundary; the number is for seek alone. Backwards the newest record comes first, its bytes in normal order.
- * Refused with the first status that applies:
- *   0xC000000D  the flags are other ones, or the size is over 524,287 or over out_len;
- *   0xC0000008  the boundary is past the log's end;
- *   0xC000018E  seek: a record that refuses is met, from the front, before the number;
- *   0xC000000D  seek: no record has the number;
- *   0xC0000011  no bytes are left in that direction;
- *   0xC000018E  the next record refuses;
- *   0xC0000023  the next record is longer than the size asked; needed is its Length.
+/* Reads as many records as fit into the size, one after another, over the start of the output, up to one that
+ * does not fit or is refused (section 8). The size is what a client asks for, and out_len is what the caller has
+ * lent: a server checks the one against the other here, and nothing past the size is written, however long the
+ * output is. Flags: EVENTLOG_SEQUENTIAL or EVENTLOG_SEEK, with EVENTLOG_FORWARDS or EVENTLOG_BACKWARDS.
+ * Sequential goes on from the boundary; with a fresh handle that is byte 0 forwards, and the log's end backwards.
+ * Seek looks from byte 0 on, whatever the boundary, and starts with the first record that has the record number;
+ * the number is for seek alone. Backwards the newest record comes first, and the bytes of a record are not turned
+ * round. Refused with the first of these statuses (Rule 8.7):
+ *   0xC000000D  the flags are other ones, or the size is above EVENTLOG_MAX_READ or out_len;
+ *   0xC0000008  the boundary is greater than log_len;
+ *   0xC000018E  a seek comes to a record that is refused and has not found the number;
+ *   0xC000000D  a seek comes to the log's end and has not found it;
+ *   0xC0000011  no bytes are ahead of the starting place;
+ *   0xC000018E  the record at the starting place is refused;
+ *   0xC0000023  it is longer than the size; needed is its Length.
  * A refusal answers read 0, needed 0 but for the last status, and the handle as it was given; it leaves the
- * output as it was. A success answers the bytes read, needed 0 and a handle of kind 1, with its boundary where
- * the last record copied ended, in the direction of reading; it leaves the output past the bytes read.
+ * output as it was. A success answers the bytes read, needed 0 and a handle of kind 1, whose boundary is the end
+ * of the last record copied, backwards its start; the rest of the output is left.
  * Cost: as eventlog_refusal for each record copied and for the one that stops the read, and every byte is copied
  * once; a seek walks from the front up to the record first. */
 eventlog_answer eventlog_read(eventlog_handle handle, const uint8_t *log, size_t log_len, uint32_t flags,
@@ -346,7 +347,7 @@ typedef struct {
     size_t len;
 } eventlog_bytes;
 
-/* All that writing takes but the record number and the output, and all that appending takes but the log. */
+/* An event without its record number: what appending is given besides the log. */
 typedef struct {
     eventlog_unnumbered fields;
     eventlog_bytes source_name;

@@ -48,9 +48,9 @@ static void check(int line, int holds, const char *fact)
 
 /* ---- the samples ---- */
 
-/* The build paper's records S and T, joined. S is as it stands there. T has the paper's texts and layout, but other
- * numbers: those that the paper leaves at 0 are not 0 here, no two fields are the same, and neither the SID nor the
- * data is as the paper has it, so that an exchange shows. */
+/* The records S and T of Rules 11.1 and 11.2, joined. S is as it stands there. T has the texts and the layout of
+ * Rule 11.2, but other numbers: those that are 0 there are not 0 here, no two fields are the same, and SID and data
+ * have other bytes, so that an exchange shows. */
 enum { S = 0, T = 64, END = 168, S_LENGTH = 64, T_LENGTH = 104, S_NUMBER = 7, T_NUMBER = 0x14131211 };
 
 /* A few zero bytes behind them, so that a part with another one's length lies in the array. */

@@ -1,4 +1,4 @@
--- The structs that C is given and gives, in the place of enums.
+-- The structs that C is given and gives, in the place of enums (Rules 4.22 and 8.25).
 -- Assumes nothing.
 use mathlib.Core.Bool.{cond}
 use mathlib.Core.List.{List}
@@ -15,19 +15,19 @@ use Rattle.eventlog.specs.declared.Stepped.{Stepped}
 use Rattle.eventlog.specs.declared.ReadHandle.{ReadHandle}
 use Rattle.eventlog.specs.declared.ReadAnswer.{ReadAnswer}
 
--- a step's answer, asked for at a place
+-- Rule 4.22: a step's answer, asked for at a place
 abbrev pub stepped : Step → ℕ → Stepped
 stepped (Found a) p = record { refusal = 0; at = p; found = a }
 stepped (Refused k q) p = record { refusal = k; at = p; found = emptyRecord }
 
--- a handle that was given: every kind but 0 is a boundary
+-- Rule 8.25: a handle that was given: every kind but 0 is a boundary
 abbrev pub placed : ℕ → ℕ → Place
 placed kind b = cond (eqb kind 0) Fresh (Boundary b)
 
 abbrev pub handleOf : ReadHandle → Handle
 handleOf h = record { place = placed (h .kind) (h .boundary) }
 
--- a handle that is answered
+-- Rule 8.25: a handle that is answered
 abbrev pub readHandle : Place → ReadHandle
 readHandle Fresh = record { kind = 0; boundary = 0 }
 readHandle (Boundary b) = record { kind = 1; boundary = b }
@@ -35,7 +35,7 @@ readHandle (Boundary b) = record { kind = 1; boundary = b }
 abbrev pub freshRead : ReadHandle
 freshRead = readHandle Fresh
 
--- what a read call answers and leaves
+-- Rule 8.25: what a read call answers and leaves
 pub record ReadServed : Type 0 where
   pub answer : ReadAnswer
   pub output : List ℕ
@@ -43,7 +43,7 @@ pub record ReadServed : Type 0 where
 abbrev pub readOutcome : ReadAnswer → List ℕ → ReadServed
 readOutcome r out = record { answer = r; output = out }
 
--- "A refusal returns [..] the old handle": the caller's own, whatever its kind
+-- Rule 8.25: a refusal gives back the caller's own handle, whatever its kind
 abbrev pub answered : ReadHandle → Served → ReadServed
 answered h x =
     record {

@@ -150,7 +150,7 @@ pub enum ReadKind {
 pub enum Direction {
     /// Oldest first.
     Forwards,
-    /// Newest first, each record with its bytes in normal order.
+    /// Newest first; the bytes of a record are not turned round.
     Backwards,
 }
 

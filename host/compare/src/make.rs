@@ -296,8 +296,8 @@ impl Made {
         aligned(sid_at + self.sid.len() + self.strings.len() + self.data.len()) + 4
     }
 
-    /// The record, laid out by the paper's table; what it ignores is zero, or
-    /// any bytes.
+    /// The record, laid out as Rule 2.2 has it; the ignored bytes are zero, or
+    /// any.
     pub fn encode(&self, mut any: Option<&mut Random>) -> Vec<u8> {
         let mut ignored = |len: usize| match &mut any {
             Some(rng) => rng.bytes(len),

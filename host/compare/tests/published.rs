@@ -1,11 +1,11 @@
-//! The one record that the source documents print: the example of MS-EVEN 4.2,
-//! "The newly written event record looks like the following".
+//! The one record that a standard prints byte by byte: the example of MS-EVEN
+//! 4.2 (Rule 11.21).
 
 fn utf16(text: &str) -> Vec<u8> {
     text.encode_utf16().flat_map(u16::to_le_bytes).collect()
 }
 
-/// The SID is printed in part: eight bytes, "including 4 bytes of padding".
+/// The SID is printed in part: eight bytes, of which four are said to be padding.
 fn record(sid: [u8; 12]) -> Vec<u8> {
     let fields: [u32; 6] = [0xA8, 0x654C_664C, 0x100, 0x4CB3_BB01, 0x4CB3_BB19, 0x17];
     let numbers: [u16; 4] = [4, 2, 1, 0];
@@ -31,7 +31,7 @@ fn record(sid: [u8; 12]) -> Vec<u8> {
     bytes
 }
 
-/// UserSidOffset is 106, and the paper's order puts the SID at 104.
+/// Rule 11.21: UserSidOffset is 106, and the order puts the SID at 104.
 #[test]
 fn refused_with_10() {
     let printed = [0, 0, 0, 0, 0, 0, 1, 0, 0, 0x46, 0, 0];

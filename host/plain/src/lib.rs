@@ -1,9 +1,8 @@
 //! Windows event records (EVENTLOGRECORD of MS-EVEN 2.2.3), Unicode only.
 //!
-//! Reads one record at a place in a buffer, walks a batch from the front or
-//! the rear, writes a record, appends one to a log, serves read requests over
-//! a log and lists a batch. Every part handed back borrows the caller's bytes;
-//! only [`listing`] allocates.
+//! The calls of Rule 1.4 of `docs/SPECIFICATION.md`: steps and walks in both
+//! directions, writing, appending, reads of a log, and the listing. Every part
+//! handed back borrows the caller's bytes; only [`listing`] allocates.
 
 #![forbid(unsafe_code)]
 #![warn(missing_docs)]

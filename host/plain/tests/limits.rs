@@ -1,4 +1,4 @@
-//! The bounds of the paper, from both sides, and the order of the refusals.
+//! The limits of Rule 3.1, from both sides, and the order of the refusals.
 
 mod common;
 

@@ -1,4 +1,4 @@
-//! Every bench sample of the paper.
+//! The samples of section 11.
 
 mod common;
 

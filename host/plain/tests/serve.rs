@@ -1,5 +1,5 @@
 //! Read requests: seeks, turning round, broken logs, and whole series of reads
-//! against the paper's count.
+//! against the count of section 9.
 
 mod common;
 
@@ -151,7 +151,7 @@ fn a_record_in_the_data_is_not_met() {
     assert_eq!(answer.status, 0xC000_000D);
 }
 
-/// One series of reads in one direction against the count of demand 3.
+/// One series of reads in one direction against the count of Rule 9.5.
 fn series(rng: &mut Rng, records: &[Vec<u8>], backwards: bool) {
     let log = records.concat();
     let mut order: Vec<&[u8]> = records.iter().map(|r| &r[..]).collect();
