@@ -51,4 +51,15 @@ if [ -s "$room/got" ] || ! grep -q '^standard input' "$room/said"; then
 fi
 passed=$((passed + 1))
 
+# a full device takes no listing: that is said on standard error
+if [ -w /dev/full ]; then
+    "$program" <"$sample" >/dev/full 2>"$room/said" || true
+    if ! grep -q '^standard output' "$room/said"; then
+        echo "list: output that cannot be written: not as it should be"
+        cat "$room/said"
+        exit 1
+    fi
+    passed=$((passed + 1))
+fi
+
 echo "list: $passed outputs as they should be"
