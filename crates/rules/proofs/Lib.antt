@@ -1,3 +1,3 @@
-mod Chain
-mod Names
-mod Tail
+mod RuleOrder
+mod NameSearch
+mod PartTests

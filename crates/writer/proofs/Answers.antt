@@ -14,8 +14,8 @@ use Rattle.format.specs.Laws.Tests.{leb-means, met}
 use Rattle.format.specs.Laws.Writing.{short-refused, stored-written}
 use Rattle.event.specs.declared.places.Places.{Places}
 use Rattle.event.specs.Placing.{placesOf, noPlaces, placesIn, placesFor}
-use Rattle.writer.specs.Room.{Roomy}
-use Rattle.writer.proofs.Whole.{length-written}
+use Rattle.writer.specs.Room.{RoomFor}
+use Rattle.writer.proofs.WholeRecord.{length-written}
 
 refused-as : (k : ℕ) (r out : List ℕ) → zero < k → writingAs k r out ≡ outcome (record { refusal = k; length = 0 }) out
 refused-as zero r out h = absurd (omega arith)
@@ -56,7 +56,7 @@ module _ (e : Event) (k : ℕ) (same : k ≡ eventRefusal 2 e) (none : k ≤ 0) 
     pub writing-short : length out < z .length → outcome (record { refusal = 15; length = 0 }) out ≡ writing 2 e out
     writing-short h = short-refused (written 2 e) out long h ∙ sym tested
 
-    pub roomy : z .length ≤ length out → Roomy z e (length out)
+    pub roomy : z .length ≤ length out → RoomFor z e (length out)
     roomy h = record { places = placed; short = short; fits = omega (arith, h, ap (λ (x : Places). x .length) placed) }
 
     pub writing-done : {r : ℕ} {m : List ℕ} → z .length ≤ length out → Stored out 0 (written 2 e) r m

@@ -1,3 +1,3 @@
 mod Answers
 mod Pieces
-mod Whole
+mod WholeRecord
