@@ -33,8 +33,9 @@ static int print_records(const uint8_t *buffer, size_t len)
         printf("%u: event %u, type %u", found.fields.record_number, found.fields.event_id, found.fields.event_type);
         print_text(", from ", buffer, found.source_name, "");
         print_text(" on ", buffer, found.computer_name, "\n");
-        for (uint32_t k = 0; k < found.fields.num_strings; k++)
-            print_text("    \"", buffer, eventlog_string(buffer, len, at, k), "\"\n");
+        eventlog_next next = eventlog_next_string(buffer, len, found.strings, found.strings.at);
+        for (; next.refusal == EVENTLOG_NOT_REFUSED; next = eventlog_next_string(buffer, len, found.strings, next.next))
+            print_text("    \"", buffer, next.string, "\"\n");
         at += found.length;
     }
     return 0;

@@ -101,7 +101,7 @@ extern "C" {
 #define EVENTLOG_REFUSED_OUTPUT 15u
 /* The listing program's input is too long. No call answers this one. */
 #define EVENTLOG_REFUSED_INPUT 16u
-/* The record has no such string. */
+/* The record has no such string, or no ended string starts at the place of the run. */
 #define EVENTLOG_REFUSED_NO_STRING 17u
 
 /* What a read answers: an NTSTATUS, under its name in MS-ERREF. */
@@ -200,10 +200,22 @@ typedef struct {
     eventlog_record found;
 } eventlog_stepped;
 
-/* How many records a walk found before it ended, and the refusal that ended it, 0 for none. */
+/* The string that starts at a place of a run of strings: the refusal, 0 for none; where the string lies, without
+ * its zero unit; and the place after its zero unit. Where it is refused the string lies at 0 with length 0, and next
+ * is the place that was asked for. */
+typedef struct {
+    uint32_t refusal;
+    eventlog_part string;
+    size_t next;
+} eventlog_next;
+
+/* How many records a walk found before it ended, the refusal that ended it, 0 for none, and where it stopped: the
+ * place of the record that was refused, from the rear its end; without a refusal the batch's length, from the rear
+ * 0. */
 typedef struct {
     size_t count;
     uint32_t refusal;
+    size_t at;
 } eventlog_walked;
 
 /* The refusal, 0 for none, and how many bytes were written. */
@@ -252,12 +264,23 @@ uint32_t eventlog_refusal(const uint8_t *buffer, size_t buffer_len, size_t at);
 /* Where string k, counted from 0, of the record that starts at a place lies, without its zero unit; at 0 with
  * length 0 where it is refused.
  * Cost: as eventlog_step, and the strings up to this one once more. Asked for each string in turn, that is the
- * number of strings times the record. */
+ * number of strings times the record; eventlog_next_string takes the run once. */
 eventlog_part eventlog_string(const uint8_t *buffer, size_t buffer_len, size_t at, uint32_t k);
 
 /* The refusal of string k: the record's, 1 to 13; 17 where k is not below its number of strings; else 0.
  * Cost: as eventlog_step. */
 uint32_t eventlog_string_refusal(const uint8_t *buffer, size_t buffer_len, size_t at, uint32_t k);
+
+/* The string that starts at a place of a run of strings, and the place after its zero unit. The run is the strings of
+ * a record as a step answers them, or any other part; no record is judged. Ask at the run's own place first, and then
+ * at each next: of a record that a step found, those are its strings in their order, as eventlog_string has them, and
+ * after the last one next is the run's end. Units are counted from the place given, which may be any place of the run,
+ * and the zero unit that ends the string has to lie wholly in the run. Refused with 17 where no ended string starts
+ * there: the place lies before the run or at its end or past it, no zero unit follows in the run, or the run does not
+ * lie in the buffer.
+ * Cost: this string, or where it is refused the rest of the run, is looked at once; so all strings of a run cost the
+ * run once. */
+eventlog_next eventlog_next_string(const uint8_t *buffer, size_t buffer_len, eventlog_part run, size_t place);
 
 /* The walk of a batch from the front, to its end (refusal 0) or to a record that is refused with 1 to 13. An
  * empty batch has no records and no refusal.
@@ -451,7 +474,7 @@ static inline const char *eventlog_message(uint32_t number)
     case EVENTLOG_REFUSED_LOG_END: return "the log does not end with a good record";
     case EVENTLOG_REFUSED_OUTPUT: return "the output is too short";
     case EVENTLOG_REFUSED_INPUT: return "the listing program's input is too long";
-    case EVENTLOG_REFUSED_NO_STRING: return "the record has no such string";
+    case EVENTLOG_REFUSED_NO_STRING: return "there is no such string";
     case EVENTLOG_STATUS_INVALID_HANDLE: return "the handle's boundary is past the log's end";
     case EVENTLOG_STATUS_INVALID_PARAMETER: return "flags or size are wrong, or no record has the number sought";
     case EVENTLOG_STATUS_END_OF_FILE: return "no bytes are left in that direction";

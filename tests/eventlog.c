@@ -10,12 +10,14 @@ _Static_assert(sizeof(eventlog_unnumbered) == 20, "eventlog_unnumbered");
 _Static_assert(sizeof(eventlog_part) == 16, "eventlog_part");
 _Static_assert(sizeof(eventlog_record) == 120, "eventlog_record");
 _Static_assert(sizeof(eventlog_stepped) == 136, "eventlog_stepped");
-_Static_assert(sizeof(eventlog_walked) == 16, "eventlog_walked");
+_Static_assert(sizeof(eventlog_next) == 32, "eventlog_next");
+_Static_assert(sizeof(eventlog_walked) == 24, "eventlog_walked");
 _Static_assert(sizeof(eventlog_written) == 16, "eventlog_written");
 _Static_assert(sizeof(eventlog_appended) == 16, "eventlog_appended");
 _Static_assert(sizeof(eventlog_handle) == 16, "eventlog_handle");
 _Static_assert(sizeof(eventlog_answer) == 40, "eventlog_answer");
 _Static_assert(offsetof(eventlog_stepped, found) == 16, "eventlog_stepped.found");
+_Static_assert(offsetof(eventlog_next, string) == 8, "eventlog_next.string");
 _Static_assert(offsetof(eventlog_answer, handle) == 24, "eventlog_answer.handle");
 
 /* A member of another width can leave a struct's size as it is, by its padding. */
@@ -23,7 +25,9 @@ _Static_assert(offsetof(eventlog_answer, handle) == 24, "eventlog_answer.handle"
 _Static_assert(WIDTH(eventlog_part, at) == 8 && WIDTH(eventlog_part, len) == 8, "eventlog_part");
 _Static_assert(WIDTH(eventlog_record, start) == 8 && WIDTH(eventlog_record, length) == 8, "eventlog_record");
 _Static_assert(WIDTH(eventlog_stepped, refusal) == 4 && WIDTH(eventlog_stepped, at) == 8, "eventlog_stepped");
+_Static_assert(WIDTH(eventlog_next, refusal) == 4 && WIDTH(eventlog_next, next) == 8, "eventlog_next");
 _Static_assert(WIDTH(eventlog_walked, count) == 8 && WIDTH(eventlog_walked, refusal) == 4, "eventlog_walked");
+_Static_assert(WIDTH(eventlog_walked, at) == 8, "eventlog_walked");
 _Static_assert(WIDTH(eventlog_written, refusal) == 4 && WIDTH(eventlog_written, length) == 8, "eventlog_written");
 _Static_assert(WIDTH(eventlog_appended, refusal) == 4 && WIDTH(eventlog_appended, used) == 8, "eventlog_appended");
 _Static_assert(WIDTH(eventlog_handle, kind) == 4 && WIDTH(eventlog_handle, boundary) == 8, "eventlog_handle");
@@ -271,15 +275,15 @@ static void corrupted_records_are_refused(void)
         eventlog_part string = eventlog_string(r, len, 0, 0);
         CHECK_AT(line, string.at == 0 && string.len == 0);
         eventlog_walked w = eventlog_walk(r, len);
-        CHECK_AT(line, w.count == 0 && w.refusal == corrupted[i].front);
+        CHECK_AT(line, w.count == 0 && w.refusal == corrupted[i].front && w.at == 0);
         w = eventlog_walk_back(r, len);
-        CHECK_AT(line, w.count == 0 && w.refusal == corrupted[i].rear);
+        CHECK_AT(line, w.count == 0 && w.refusal == corrupted[i].rear && w.at == len);
     }
 }
 
-/* ---- string, string_refusal ---- */
+/* ---- string, string_refusal, next_string ---- */
 
-/* The strings "A", the empty one and "BC" of a record that starts at 8. */
+/* The strings "A", the empty one and "BC" of a record that starts at 8; they lie from 96 to 108. */
 static const struct {
     int line;
     size_t at;
@@ -295,16 +299,23 @@ static const struct {
     {__LINE__, 116, 0, 1, {.at = 0, .len = 0}},
 };
 
-static void strings_are_found(void)
+enum { THREE = 116 };
+
+static void write_three(uint8_t s[THREE])
 {
     static const uint8_t three[] = {'A', 0, 0, 0, 0, 0, 'B', 0, 'C', 0, 0, 0};
-    uint8_t s[116];
-    fill(s, sizeof s);
+    fill(s, THREE);
     eventlog_event e = event_t;
     e.fields.num_strings = 3;
     e.strings = (eventlog_bytes){three, sizeof three};
-    eventlog_written w = write_event(T_NUMBER, e, s + 8, sizeof s - 8);
+    eventlog_written w = write_event(T_NUMBER, e, s + 8, THREE - 8);
     CHECK(w.refusal == 0 && w.length == 108);
+}
+
+static void strings_are_found(void)
+{
+    uint8_t s[THREE];
+    write_three(s);
     for (size_t i = 0; i < COUNT(asked); i++) {
         eventlog_part part = eventlog_string(s, sizeof s, asked[i].at, asked[i].k);
         CHECK_AT(asked[i].line, same_part(part, asked[i].part));
@@ -315,7 +326,83 @@ static void strings_are_found(void)
     CHECK(eventlog_string_refusal(NULL, 0, 0, 0) == 1);
 }
 
+#define NO_STRING(place) {.refusal = 17, .string = {.at = 0, .len = 0}, .next = (place)}
+#define STRING(place, length, after) {.refusal = 0, .string = {.at = (place), .len = (length)}, .next = (after)}
+
+/* Places of their run, and other runs. */
+static const struct {
+    int line;
+    eventlog_part run;
+    size_t place;
+    eventlog_next next;
+} asked_next[] = {
+    {__LINE__, {.at = 96, .len = 12}, 96, STRING(96, 2, 100)},
+    {__LINE__, {.at = 96, .len = 12}, 100, STRING(100, 0, 102)},
+    {__LINE__, {.at = 96, .len = 12}, 102, STRING(102, 4, 108)},
+    {__LINE__, {.at = 96, .len = 12}, 108, NO_STRING(108)},
+    {__LINE__, {.at = 96, .len = 12}, 109, NO_STRING(109)},
+    {__LINE__, {.at = 96, .len = 12}, 95, NO_STRING(95)},
+    {__LINE__, {.at = 96, .len = 12}, 0, NO_STRING(0)},
+    {__LINE__, {.at = 96, .len = 12}, SIZE_MAX, NO_STRING(SIZE_MAX)},
+    /* units are counted from the place */
+    {__LINE__, {.at = 96, .len = 12}, 97, STRING(97, 0, 99)},
+    {__LINE__, {.at = 96, .len = 12}, 103, STRING(103, 2, 107)},
+    {__LINE__, {.at = 96, .len = 12}, 104, STRING(104, 2, 108)},
+    {__LINE__, {.at = 96, .len = 12}, 107, NO_STRING(107)},
+    /* the run ends in a zero unit, before it, right behind it */
+    {__LINE__, {.at = 96, .len = 11}, 102, NO_STRING(102)},
+    {__LINE__, {.at = 96, .len = 10}, 102, NO_STRING(102)},
+    {__LINE__, {.at = 96, .len = 4}, 96, STRING(96, 2, 100)},
+    {__LINE__, {.at = 96, .len = 4}, 100, NO_STRING(100)},
+    /* to the buffer's end, and past it */
+    {__LINE__, {.at = 96, .len = 20}, 108, STRING(108, 6, 116)},
+    {__LINE__, {.at = 96, .len = 21}, 96, NO_STRING(96)},
+    {__LINE__, {.at = 96, .len = SIZE_MAX - 95}, 96, NO_STRING(96)},
+    {__LINE__, {.at = 96, .len = SIZE_MAX}, 96, NO_STRING(96)},
+    {__LINE__, {.at = 116, .len = 0}, 116, NO_STRING(116)},
+    {__LINE__, {.at = 117, .len = 0}, 117, NO_STRING(117)},
+    {__LINE__, {.at = SIZE_MAX, .len = 2}, SIZE_MAX, NO_STRING(SIZE_MAX)},
+    {__LINE__, {.at = 0, .len = 0}, 0, NO_STRING(0)},
+};
+
+static int same_next(eventlog_next a, eventlog_next b)
+{
+    return a.refusal == b.refusal && same_part(a.string, b.string) && a.next == b.next;
+}
+
+static void next_strings_are_found(void)
+{
+    uint8_t s[THREE], before[THREE];
+    write_three(s);
+    memcpy(before, s, THREE);
+    for (size_t i = 0; i < COUNT(asked_next); i++) {
+        eventlog_next next = eventlog_next_string(s, THREE, asked_next[i].run, asked_next[i].place);
+        CHECK_AT(asked_next[i].line, same_next(next, asked_next[i].next));
+    }
+    CHECK(same_next(eventlog_next_string(NULL, 0, (eventlog_part){.at = 0, .len = 0}, 0), (eventlog_next)NO_STRING(0)));
+    CHECK(same_next(eventlog_next_string(NULL, 0, (eventlog_part){.at = 0, .len = 2}, 0), (eventlog_next)NO_STRING(0)));
+
+    /* in turn, the record's strings by number */
+    eventlog_record found = eventlog_step(s, THREE, 8).found;
+    CHECK(same_part(found.strings, (eventlog_part){.at = 96, .len = 12}));
+    size_t place = found.strings.at;
+    for (uint32_t k = 0; k < found.fields.num_strings; k++) {
+        eventlog_next next = eventlog_next_string(s, THREE, found.strings, place);
+        CHECK(next.refusal == 0 && same_part(next.string, eventlog_string(s, THREE, 8, k)));
+        place = next.next;
+    }
+    CHECK(place == found.strings.at + found.strings.len);
+    CHECK(memcmp(s, before, THREE) == 0);
+}
+
 /* ---- walk, walk_back ---- */
+
+#define WALKED(records, number, place) {.count = (records), .refusal = (number), .at = (place)}
+
+static int same_walked(eventlog_walked a, eventlog_walked b)
+{
+    return a.count == b.count && a.refusal == b.refusal && a.at == b.at;
+}
 
 static void walks_answer(void)
 {
@@ -330,21 +417,19 @@ static void walks_answer(void)
         size_t len;
         eventlog_walked front, rear;
     } rows[] = {
-        {__LINE__, batch, END, {.count = 2, .refusal = 0}, {.count = 2, .refusal = 0}},
-        {__LINE__, batch, T, {.count = 1, .refusal = 0}, {.count = 1, .refusal = 0}},
-        {__LINE__, NULL, 0, {.count = 0, .refusal = 0}, {.count = 0, .refusal = 0}},
+        {__LINE__, batch, END, WALKED(2, 0, END), WALKED(2, 0, 0)},
+        {__LINE__, batch, T, WALKED(1, 0, T), WALKED(1, 0, 0)},
+        {__LINE__, NULL, 0, WALKED(0, 0, 0), WALKED(0, 0, 0)},
         /* the last four of 167 bytes are 0, 104, 0, 0: a Length of 26,624 */
-        {__LINE__, batch, END - 1, {.count = 1, .refusal = 3}, {.count = 0, .refusal = 3}},
-        {__LINE__, batch, T + 63, {.count = 1, .refusal = 1}, {.count = 0, .refusal = 2}},
-        {__LINE__, batch + 1, END - 1, {.count = 0, .refusal = 2}, {.count = 1, .refusal = 1}},
-        {__LINE__, bad_s, END, {.count = 0, .refusal = 6}, {.count = 1, .refusal = 6}},
-        {__LINE__, bad_t, END, {.count = 1, .refusal = 7}, {.count = 0, .refusal = 7}},
+        {__LINE__, batch, END - 1, WALKED(1, 3, T), WALKED(0, 3, END - 1)},
+        {__LINE__, batch, T + 63, WALKED(1, 1, T), WALKED(0, 2, T + 63)},
+        {__LINE__, batch + 1, END - 1, WALKED(0, 2, 0), WALKED(1, 1, T - 1)},
+        {__LINE__, bad_s, END, WALKED(0, 6, 0), WALKED(1, 6, T)},
+        {__LINE__, bad_t, END, WALKED(1, 7, T), WALKED(0, 7, END)},
     };
     for (size_t i = 0; i < COUNT(rows); i++) {
-        eventlog_walked front = eventlog_walk(rows[i].s, rows[i].len);
-        CHECK_AT(rows[i].line, front.count == rows[i].front.count && front.refusal == rows[i].front.refusal);
-        eventlog_walked rear = eventlog_walk_back(rows[i].s, rows[i].len);
-        CHECK_AT(rows[i].line, rear.count == rows[i].rear.count && rear.refusal == rows[i].rear.refusal);
+        CHECK_AT(rows[i].line, same_walked(eventlog_walk(rows[i].s, rows[i].len), rows[i].front));
+        CHECK_AT(rows[i].line, same_walked(eventlog_walk_back(rows[i].s, rows[i].len), rows[i].rear));
     }
 }
 
@@ -846,6 +931,7 @@ int main(void)
     steps_refuse_places();
     corrupted_records_are_refused();
     strings_are_found();
+    next_strings_are_found();
     walks_answer();
     write_lays_out();
     numbers_and_texts_are_refused();

@@ -56,6 +56,11 @@ static void step_back(void) { kept = eventlog_step_back(batch, used, used).found
 static void refusal(void) { kept = eventlog_refusal(batch, used, 0); }
 static void string(void) { kept = eventlog_string(batch, used, 0, 1).at; }
 static void string_refusal(void) { kept = eventlog_string_refusal(batch, used, 0, 1); }
+static void next_string(void)
+{
+    eventlog_part run = eventlog_step(batch, used, 0).found.strings;
+    kept = eventlog_next_string(batch, used, run, run.at).next;
+}
 static void walk(void) { kept = eventlog_walk(batch, used).count; }
 static void walk_back(void) { kept = eventlog_walk_back(batch, used).count; }
 static void write_event(void) { kept = eventlog_write_event(UINT32_MAX, &event, out, sizeof out).length; }
@@ -78,8 +83,8 @@ int main(void)
         void (*call)(void);
     } calls[] = {
         {"fresh", fresh}, {"step", step}, {"step_back", step_back}, {"refusal", refusal}, {"string", string},
-        {"string_refusal", string_refusal}, {"walk", walk}, {"walk_back", walk_back}, {"write", write_event},
-        {"append", append}, {"read forwards", forwards}, {"read backwards", backwards}, {"read seek", seek},
+        {"string_refusal", string_refusal}, {"next_string", next_string}, {"walk", walk}, {"walk_back", walk_back},
+        {"write", write_event}, {"append", append}, {"read forwards", forwards}, {"read backwards", backwards}, {"read seek", seek},
         {"listing", listing},
     };
     /* Records numbered from 4,294,967,294 on, so that a listing has long numbers; a seek finds the third, 0. */

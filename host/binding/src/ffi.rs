@@ -56,9 +56,19 @@ pub(crate) struct Stepped {
 }
 
 #[repr(C)]
+#[derive(Debug, PartialEq, Eq)]
+pub(crate) struct NextString {
+    pub refusal: u32,
+    pub string: Part,
+    pub next: usize,
+}
+
+#[repr(C)]
+#[derive(Debug, PartialEq, Eq)]
 pub(crate) struct Walked {
     pub count: usize,
     pub refusal: u32,
+    pub at: usize,
 }
 
 #[repr(C)]
@@ -95,7 +105,8 @@ pub(crate) struct Answer {
 const _: () = {
     assert!(size_of::<Fields>() == 24 && size_of::<Unnumbered>() == 20);
     assert!(size_of::<Part>() == 16 && size_of::<Record>() == 120);
-    assert!(size_of::<Stepped>() == 136 && size_of::<Walked>() == 16);
+    assert!(size_of::<Stepped>() == 136 && size_of::<NextString>() == 32);
+    assert!(size_of::<Walked>() == 24);
     assert!(size_of::<Written>() == 16 && size_of::<Appended>() == 16);
     assert!(size_of::<Handle>() == 16 && size_of::<Answer>() == 40);
 };
@@ -106,6 +117,12 @@ unsafe extern "C" {
     fn eventlog_refusal(buffer: *const u8, buffer_len: usize, at: usize) -> u32;
     fn eventlog_string(buffer: *const u8, buffer_len: usize, at: usize, k: u32) -> Part;
     fn eventlog_string_refusal(buffer: *const u8, buffer_len: usize, at: usize, k: u32) -> u32;
+    fn eventlog_next_string(
+        buffer: *const u8,
+        buffer_len: usize,
+        run: Part,
+        place: usize,
+    ) -> NextString;
     fn eventlog_walk(buffer: *const u8, buffer_len: usize) -> Walked;
     fn eventlog_walk_back(buffer: *const u8, buffer_len: usize) -> Walked;
     fn eventlog_write(
@@ -181,6 +198,11 @@ pub(crate) fn string(buffer: &[u8], at: usize, k: u32) -> Part {
 pub(crate) fn string_refusal(buffer: &[u8], at: usize, k: u32) -> u32 {
     // SAFETY: as in `string`.
     unsafe { eventlog_string_refusal(buffer.as_ptr(), buffer.len(), at, k) }
+}
+
+pub(crate) fn next_string(buffer: &[u8], run: Part, place: usize) -> NextString {
+    // SAFETY: `buffer` is readable for its length; any run and place may be given.
+    unsafe { eventlog_next_string(buffer.as_ptr(), buffer.len(), run, place) }
 }
 
 pub(crate) fn walk(buffer: &[u8]) -> Walked {
@@ -418,6 +440,43 @@ mod tests {
         for k in [1, 256, u32::MAX] {
             assert_eq!(string_refusal(&s, 8, k), 17);
             assert_eq!(string(&s, 8, k), Part::default());
+        }
+    }
+
+    #[test]
+    fn refused_next_strings_lie_nowhere() {
+        let s = behind_8(&record());
+        let run = Part { at: 96, len: 6 };
+        let found = NextString {
+            refusal: 0,
+            string: Part { at: 96, len: 4 },
+            next: 102,
+        };
+        assert_eq!(next_string(&s, run, 96), found);
+        let nothing = |next| NextString {
+            refusal: 17,
+            string: Part::default(),
+            next,
+        };
+        for place in [0, 95, 101, 102, 103, s.len(), usize::MAX] {
+            assert_eq!(next_string(&s, run, place), nothing(place));
+        }
+        for (at, len) in [(96, 5), (96, s.len() - 95), (96, usize::MAX), (96, 0)] {
+            assert_eq!(next_string(&s, Part { at, len }, 96), nothing(96));
+        }
+    }
+
+    #[test]
+    fn walks_answer_where_they_stopped() {
+        let s = [record(), record()].concat();
+        let walked = |count, refusal, at| Walked { count, refusal, at };
+        assert_eq!(walk(&s), walked(2, 0, s.len()));
+        assert_eq!(walk_back(&s), walked(2, 0, 0));
+        for (refusal, record) in refused_records().into_iter().skip(1) {
+            let behind = [&s, &record[..]].concat();
+            assert_eq!(walk(&behind), walked(2, refusal, s.len()));
+            let before = [&record[..], &s].concat();
+            assert_eq!(walk_back(&before), walked(2, refusal, LENGTH));
         }
     }
 

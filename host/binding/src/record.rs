@@ -259,6 +259,6 @@ fn record<'a>(buffer: &'a [u8], stepped: &Stepped) -> Result<Record<'a>, BadReco
 
 /// The part's bytes. It is proved to lie in the buffer; a panic tells that the
 /// structs here and in the library are laid out differently.
-fn slice(buffer: &[u8], part: Part) -> &[u8] {
+pub(crate) fn slice(buffer: &[u8], part: Part) -> &[u8] {
     &buffer[part.at..][..part.len]
 }

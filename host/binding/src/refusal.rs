@@ -47,7 +47,8 @@ pub enum Refusal {
     LogEnd = 14,
     /// The output is too short.
     Output = 15,
-    /// The record has no such string.
+    /// There is no such string: the record has not so many, or none starts at
+    /// the place of a run.
     NoString = 17,
 }
 
@@ -110,7 +111,7 @@ impl fmt::Display for Refusal {
             Refusal::Size => "Length is not the laid-out size",
             Refusal::LogEnd => "the log does not end with a good record",
             Refusal::Output => "the output is too short",
-            Refusal::NoString => "the record has no such string",
+            Refusal::NoString => "there is no such string",
         })
     }
 }

@@ -3,10 +3,11 @@
 use core::char::{DecodeUtf16, REPLACEMENT_CHARACTER, decode_utf16};
 use core::fmt::{self, Write};
 use core::iter::FusedIterator;
-use core::slice;
+use core::slice::Iter;
 
-/// The zero unit.
-const ZERO: [u8; 2] = [0; 2];
+use crate::ffi::{self, Part};
+use crate::record::slice;
+use crate::refusal::Refusal;
 
 /// A name or a string, as the bytes of its UTF-16 units, little-endian. The
 /// library does not judge units: a text may hold half of a surrogate pair. As
@@ -118,7 +119,7 @@ impl PartialEq<&str> for Text<'_> {
 /// ```
 #[derive(Clone, Debug)]
 #[must_use = "an iterator does nothing until it is asked for items"]
-pub struct Units<'a>(slice::Iter<'a, [u8; 2]>);
+pub struct Units<'a>(Iter<'a, [u8; 2]>);
 
 impl Iterator for Units<'_> {
     type Item = u16;
@@ -175,25 +176,63 @@ impl<'a> Iterator for Strings<'a> {
     type Item = Text<'a>;
 
     fn next(&mut self) -> Option<Text<'a>> {
-        let (string, next) = next_string(self.run, self.place)?;
+        let run = Run {
+            at: 0,
+            len: self.run.len(),
+        };
+        let (string, next) = next_string(self.run, run, self.place).ok()?;
         self.place = next;
-        Some(Text(string))
+        Some(string)
     }
 
     fn size_hint(&self) -> (usize, Option<usize>) {
-        (0, Some((self.run.len() - self.place) / ZERO.len()))
+        (0, Some((self.run.len() - self.place) / 2))
     }
 }
 
 impl FusedIterator for Strings<'_> {}
 
-/// The string that starts at a place of a run, and the place after its zero
-/// unit; nothing where no ended string starts there.
-fn next_string(run: &[u8], place: usize) -> Option<(&[u8], usize)> {
-    let rest = run.get(place..)?;
-    let units = rest.as_chunks().0;
-    let len = ZERO.len() * units.iter().position(|unit| *unit == ZERO)?;
-    Some((&rest[..len], place + len + ZERO.len()))
+/// Where a run of strings lies in a buffer: its first byte, and how many bytes.
+/// That of a record starts at [`Places::strings`](crate::Places::strings).
+///
+/// ```
+/// let run = eventlog::Run { at: 60, len: 6 };
+/// assert_eq!(run.at + run.len, 66);
+/// ```
+#[derive(Clone, Copy, Debug, Default, PartialEq, Eq)]
+pub struct Run {
+    /// The place of the first byte.
+    pub at: usize,
+    /// How many bytes.
+    pub len: usize,
+}
+
+/// The string that starts at `place` of a run of strings, without its zero unit,
+/// and the place after its zero unit. No record is judged. Units are counted from
+/// `place`; a run of one's own bytes is asked with less ado by [`Strings`].
+///
+/// # Errors
+///
+/// [`Refusal::NoString`], where no ended string starts there: `place` does not
+/// lie in the run, no zero unit follows in it, or the run does not lie in the
+/// buffer.
+///
+/// ```
+/// use eventlog::{next_string, Refusal, Run};
+///
+/// let (buffer, run) = (b"..A\0\0\0\0\0..", Run { at: 2, len: 6 });
+/// let (first, next) = next_string(buffer, run, run.at)?;
+/// assert_eq!((first.as_bytes(), next), (&b"A\0"[..], 6));
+/// let (second, next) = next_string(buffer, run, next)?;
+/// assert_eq!((second.as_bytes(), next), (&b""[..], 8));
+/// assert_eq!(next_string(buffer, run, next), Err(Refusal::NoString));
+/// # Ok::<(), Refusal>(())
+/// ```
+pub fn next_string(buffer: &[u8], run: Run, place: usize) -> Result<(Text<'_>, usize), Refusal> {
+    let Run { at, len } = run;
+    let found = ffi::next_string(buffer, Part { at, len }, place);
+    Refusal::unless(found.refusal, ())?;
+    Ok((Text(slice(buffer, found.string)), found.next))
 }
 
 /// A [`Text`] from a literal, at compile time.

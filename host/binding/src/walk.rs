@@ -15,8 +15,8 @@ use crate::refusal::Refusal;
 /// use eventlog::{walk, Refusal};
 ///
 /// let stopped = walk(&[0; 64]).unwrap_err();
-/// assert_eq!((stopped.count, stopped.refusal), (0, Refusal::Length));
-/// let text = "refused 2 after 0 records: Length is out of range or not a multiple of 4";
+/// assert_eq!((stopped.count, stopped.refusal, stopped.at), (0, Refusal::Length, 0));
+/// let text = "refused 2 at 0 after 0 records: Length is out of range or not a multiple of 4";
 /// assert_eq!(stopped.to_string(), text);
 /// ```
 #[non_exhaustive]
@@ -26,14 +26,16 @@ pub struct StoppedWalk {
     pub count: usize,
     /// The refusal of the record that stopped it.
     pub refusal: Refusal,
+    /// Where that record starts; in a walk from the rear, where it ends.
+    pub at: usize,
 }
 
 impl fmt::Display for StoppedWalk {
     fn fmt(&self, f: &mut fmt::Formatter<'_>) -> fmt::Result {
-        let StoppedWalk { count, refusal } = self;
+        let StoppedWalk { count, refusal, at } = self;
         write!(
             f,
-            "refused {} after {count} records: {refusal}",
+            "refused {} at {at} after {count} records: {refusal}",
             refusal.number()
         )
     }
@@ -54,7 +56,8 @@ impl Error for StoppedWalk {}
 /// let used = append(&mut log, 0, &Event::default())?;
 /// let used = append(&mut log, used, &Event::default())?;
 /// assert_eq!(walk(&log[..used])?, 2);
-/// assert_eq!(walk(&log).unwrap_err().count, 2);
+/// let stopped = walk(&log).unwrap_err();
+/// assert_eq!((stopped.count, stopped.at), (2, used));
 /// # Ok::<(), Box<dyn std::error::Error>>(())
 /// ```
 pub fn walk(buffer: &[u8]) -> Result<usize, StoppedWalk> {
@@ -74,7 +77,8 @@ pub fn walk(buffer: &[u8]) -> Result<usize, StoppedWalk> {
 /// let mut log = [0; 200];
 /// let used = append(&mut log, 0, &Event::default())?;
 /// assert_eq!(walk_back(&log[..used])?, 1);
-/// assert_eq!(walk_back(&log).unwrap_err().count, 0);
+/// let stopped = walk_back(&log).unwrap_err();
+/// assert_eq!((stopped.count, stopped.at), (0, log.len()));
 /// # Ok::<(), Box<dyn std::error::Error>>(())
 /// ```
 pub fn walk_back(buffer: &[u8]) -> Result<usize, StoppedWalk> {
@@ -82,8 +86,8 @@ pub fn walk_back(buffer: &[u8]) -> Result<usize, StoppedWalk> {
 }
 
 fn counted(walked: &Walked) -> Result<usize, StoppedWalk> {
-    let count = walked.count;
-    Refusal::unless(walked.refusal, count).map_err(|refusal| StoppedWalk { count, refusal })
+    let Walked { count, refusal, at } = *walked;
+    Refusal::unless(refusal, count).map_err(|refusal| StoppedWalk { count, refusal, at })
 }
 
 /// The records of a batch, from the front.

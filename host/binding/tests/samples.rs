@@ -116,9 +116,11 @@ fn walked_and_listed() {
     assert_eq!((walk(&log), walk_back(&log)), (Ok(2), Ok(2)));
     assert_eq!((walk(&[]), walk_back(&[])), (Ok(0), Ok(0)));
     let stopped = walk(&log[..167]).unwrap_err();
-    assert_eq!((stopped.count, stopped.refusal), (1, Refusal::CutShort));
+    let why = (stopped.count, stopped.refusal, stopped.at);
+    assert_eq!(why, (1, Refusal::CutShort, 64));
     let stopped = walk_back(&log[1..]).unwrap_err();
-    assert_eq!((stopped.count, stopped.refusal), (1, Refusal::Place));
+    let why = (stopped.count, stopped.refusal, stopped.at);
+    assert_eq!(why, (1, Refusal::Place, 63));
 
     let text = |s: &[u8]| {
         let mut out = vec![b'x'; s.len() + 64];

@@ -8,7 +8,7 @@ use std::ops::RangeInclusive;
 use std::path::Path;
 use std::process::{Command, Output, Stdio};
 
-use eventlog::{Direction, ReadKind, Refusal, Text};
+use eventlog::{Direction, ReadKind, Refusal, Run, Text};
 
 use crate::make::Made;
 
@@ -18,6 +18,7 @@ pub enum Call {
     Step,
     StepBack,
     String,
+    NextString,
     Walk,
     WalkBack,
     Write,
@@ -431,6 +432,67 @@ impl Check {
         self.count(Call::String, number);
     }
 
+    /// The string at a place of a run. What the proved answer leaves out of a
+    /// refusal is 0 and the place, which the binding's own tests see to.
+    pub fn next_string(&mut self, s: &[u8], (at, len): (usize, usize), place: usize) {
+        let plain = plain::next_string(s, (at, len), place);
+        let proved = match eventlog::next_string(s, Run { at, len }, place) {
+            Ok((string, next)) => {
+                let lies = location(s, string.as_bytes(), 0);
+                (0, lies.at, lies.len, next)
+            }
+            Err(refusal) => (refusal.number(), 0, 0, place),
+        };
+        if proved != (plain.refusal, plain.at, plain.len, plain.next) {
+            let call = format!("next_string at {place} of {len} bytes at {at}");
+            self.differ(&call, &[s], &proved, &plain);
+        }
+        self.count(Call::NextString, plain.refusal);
+    }
+
+    /// Runs that start and end around these bytes of the buffer, and places
+    /// around their edges.
+    pub fn runs(&mut self, s: &[u8], (at, len): (usize, usize)) {
+        let end = at + len;
+        let starts = [
+            0,
+            at.saturating_sub(1),
+            at,
+            at + 1,
+            end,
+            s.len(),
+            usize::MAX,
+        ];
+        let ends = [
+            0,
+            at,
+            end.saturating_sub(1),
+            end,
+            end + 1,
+            s.len(),
+            s.len() + 1,
+        ];
+        let places = [0, 1, 2, 3].map(|n| {
+            [
+                at + n,
+                (at + n).wrapping_sub(4),
+                end + n,
+                (end + n).wrapping_sub(4),
+            ]
+        });
+        for start in starts {
+            let lens = ends.map(|end| end.wrapping_sub(start));
+            for len in [&lens[..], &[0, 1, 2, usize::MAX]].concat() {
+                for place in places.as_flattened() {
+                    self.next_string(s, (start, len), *place);
+                }
+                for place in [0, s.len(), usize::MAX] {
+                    self.next_string(s, (start, len), place);
+                }
+            }
+        }
+    }
+
     /// Both steps at a place, and some strings.
     pub fn at(&mut self, s: &[u8], at: usize) {
         if let Some(strings) = self.step(s, at) {
@@ -446,11 +508,12 @@ impl Check {
 
     /// Both walks.
     pub fn walks(&mut self, s: &[u8]) {
-        let proved = [eventlog::walk(s), eventlog::walk_back(s)].map(|walk| match walk {
-            Ok(count) => (count, 0),
-            Err(stopped) => (stopped.count, stopped.refusal.number()),
+        let walks = [(eventlog::walk(s), s.len()), (eventlog::walk_back(s), 0)];
+        let proved = walks.map(|(walk, reached)| match walk {
+            Ok(count) => (count, 0, reached),
+            Err(stopped) => (stopped.count, stopped.refusal.number(), stopped.at),
         });
-        let plain = [plain::walk(s), plain::walk_back(s)].map(|w| (w.count, w.refusal));
+        let plain = [plain::walk(s), plain::walk_back(s)].map(|w| (w.count, w.refusal, w.at));
         if proved != plain {
             self.differ("walk, walk_back", &[s], &proved, &plain);
         }
@@ -490,6 +553,9 @@ impl Check {
 
     /// All strings of a record, one after another and by number, and none more.
     fn strings(&mut self, s: &[u8], record: &eventlog::Record) {
+        let run = (record.places.strings, record.event.strings.len());
+        self.runs(s, run);
+        let mut place = run.0;
         let mut strings = record.strings();
         for k in 0..=u32::from(record.event.num_strings) {
             let next = strings.next().map(Text::as_bytes);
@@ -502,6 +568,16 @@ impl Check {
                 let call = format!("string {k} of the record at {}", record.start);
                 self.differ(&call, &[s], &(next, numbered), &plain);
             }
+            self.next_string(s, run, place);
+            let found = plain::next_string(s, run, place);
+            if (found.refusal == 0) != plain.is_some() {
+                let call = format!("next string {k} of the record at {}", record.start);
+                self.differ(&call, &[s], &found, &plain);
+            }
+            place = found.next;
+        }
+        if place != run.0 + run.1 {
+            self.differ("strings in turn", &[s], &place, &run);
         }
         self.tally.calls += 2;
     }

@@ -15,7 +15,7 @@ use random::Random;
 pub type Family = (&'static str, fn(&mut Random, &mut Check));
 
 /// All kinds of inputs, those with short ones first.
-pub const FAMILIES: [Family; 10] = [
+pub const FAMILIES: [Family; 11] = [
     ("fields", fields),
     ("bytes", bytes),
     ("cuts", cuts),
@@ -26,6 +26,7 @@ pub const FAMILIES: [Family; 10] = [
     ("writes", writes),
     ("limits", limits),
     ("listings", listings),
+    ("runs", runs),
 ];
 
 /// One round of a family.
@@ -335,6 +336,24 @@ fn large_appends(rng: &mut Random, check: &mut Check) {
             check.step_back(&log, now);
         }
     }
+}
+
+/// Every place of every run in a few bytes, most of them zero.
+fn runs(rng: &mut Random, check: &mut Check) {
+    for _ in 0..6 {
+        let len = rng.below(13);
+        let s: Vec<u8> = (0..len).map(|_| rng.below(3) as u8 / 2).collect();
+        for at in 0..=len + 1 {
+            for run in 0..=len + 2 - at {
+                for place in 0..=len + 2 {
+                    check.next_string(&s, (at, run), place);
+                }
+            }
+        }
+    }
+    let s = make::record(rng, Size::Medium);
+    let (from, to) = (rng.below(s.len() + 1), rng.below(s.len() + 1));
+    check.runs(&s, (from.min(to), from.abs_diff(to)));
 }
 
 /// Lists of reads over a log, one handle after the other.

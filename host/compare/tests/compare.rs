@@ -109,10 +109,11 @@ fn counts(tally: &Tally) -> String {
 fn reached(total: &Tally) {
     let reading: Vec<u32> = (0..=13).collect();
     let writing = [0, 2, 6, 7, 8, 9, 10, 11, 12, 15];
-    let expected: [(Call, Vec<u32>); 9] = [
+    let expected: [(Call, Vec<u32>); 10] = [
         (Call::Step, reading.clone()),
         (Call::StepBack, reading.clone()),
         (Call::String, [&reading[..], &[17]].concat()),
+        (Call::NextString, vec![0, 17]),
         (Call::Walk, reading.clone()),
         (Call::WalkBack, reading.clone()),
         (Call::Program, [&reading[..], &[16]].concat()),

@@ -21,8 +21,8 @@ pub use layout::{
 };
 pub use listing::{listing, MAX_LISTED};
 pub use record::{
-    computer_name, event_data, refusal, sid, source_name, step, step_back, string, string_refusal,
-    Record, Refusal,
+    computer_name, event_data, next_string, refusal, sid, source_name, step, step_back, string,
+    string_refusal, NextString, Record, Refusal,
 };
 pub use serve::{flags, status, Answer, Handle, Place, MAX_READ};
 pub use walk::{walk, walk_back, Walked};

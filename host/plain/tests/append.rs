@@ -29,7 +29,8 @@ fn numbers_count_on() {
         walk(&log[..used]),
         Walked {
             count: 3,
-            refusal: 0
+            refusal: 0,
+            at: used,
         }
     );
 }

@@ -163,8 +163,13 @@ fn walks_agree() {
             .map(|_| written(&Owned::random(&mut rng).event()))
             .collect();
         let mut log = records.concat();
-        let whole = Walked { count, refusal: 0 };
-        assert_eq!((walk(&log), walk_back(&log)), (whole, whole));
+        let whole = |at| Walked {
+            count,
+            refusal: 0,
+            at,
+        };
+        assert_eq!(walk(&log), whole(log.len()));
+        assert_eq!(walk_back(&log), whole(0));
 
         let mut at = 0;
         for record in &records {
@@ -194,7 +199,7 @@ fn walks_agree() {
             assert_eq!(first, format!("records {}", front.count));
             assert_eq!(text.lines().count(), front.count + 1);
         } else {
-            assert!(first.starts_with(&format!("refused {} at ", front.refusal)));
+            assert_eq!(first, format!("refused {} at {}", front.refusal, front.at));
             assert_eq!(text.lines().count(), 1);
         }
     }
@@ -205,11 +210,15 @@ fn slow_walk(s: &[u8]) -> Walked {
     while at != s.len() {
         match slow(s, at) {
             Ok(length) => at += length,
-            Err(refusal) => return Walked { count, refusal },
+            Err(refusal) => return Walked { count, refusal, at },
         }
         count += 1;
     }
-    Walked { count, refusal: 0 }
+    Walked {
+        count,
+        refusal: 0,
+        at,
+    }
 }
 
 fn slow_walk_back(s: &[u8]) -> Walked {
@@ -217,9 +226,19 @@ fn slow_walk_back(s: &[u8]) -> Walked {
     while end != 0 {
         match slow_back(s, end) {
             Ok(length) => end -= length,
-            Err(refusal) => return Walked { count, refusal },
+            Err(refusal) => {
+                return Walked {
+                    count,
+                    refusal,
+                    at: end,
+                }
+            }
         }
         count += 1;
     }
-    Walked { count, refusal: 0 }
+    Walked {
+        count,
+        refusal: 0,
+        at: end,
+    }
 }

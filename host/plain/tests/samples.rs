@@ -120,12 +120,42 @@ fn s_changed() {
 }
 
 #[test]
+fn strings_in_turn() {
+    // "A", the empty one, and two units without an end.
+    let s = b".A\0\0\0\0\0B\0C\0";
+    let found = |at, len, next| NextString {
+        refusal: 0,
+        at,
+        len,
+        next,
+    };
+    let none = |next| NextString {
+        refusal: 17,
+        at: 0,
+        len: 0,
+        next,
+    };
+    let run = (1, 10);
+    assert_eq!(next_string(s, run, 1), found(1, 2, 5));
+    assert_eq!(next_string(s, run, 5), found(5, 0, 7));
+    for place in [0, 7, 10, 11, 12, usize::MAX] {
+        assert_eq!(next_string(s, run, place), none(place));
+    }
+    // Units are counted from the place.
+    assert_eq!(next_string(s, run, 2), found(2, 0, 4));
+    for run in [(1, 11), (1, usize::MAX), (usize::MAX, 1), (1, 3), (2, 9)] {
+        assert_eq!(next_string(s, run, 1), none(1));
+    }
+}
+
+#[test]
 fn empty_buffer() {
     assert_eq!(step(&[], 0), Err(Refusal { number: 1, at: 0 }));
     assert_eq!(step_back(&[], 0), Err(Refusal { number: 1, at: 0 }));
     let none = Walked {
         count: 0,
         refusal: 0,
+        at: 0,
     };
     assert_eq!((walk(&[]), walk_back(&[])), (none, none));
 }

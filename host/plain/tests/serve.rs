@@ -142,11 +142,13 @@ fn a_record_in_the_data_is_not_met() {
         ..s_event()
     });
     let log = [&outer[..], &S, &outer].concat();
-    let whole = Walked {
+    let whole = |at| Walked {
         count: 3,
         refusal: 0,
+        at,
     };
-    assert_eq!((walk(&log), walk_back(&log)), (whole, whole));
+    assert_eq!(walk(&log), whole(log.len()));
+    assert_eq!(walk_back(&log), whole(0));
     let (answer, _) = read(Handle::fresh(), &log, SEEK_FORWARDS, 8, 1000);
     assert_eq!(answer.status, 0xC000_000D);
 }

@@ -12,6 +12,7 @@ const READ: usize = 64 << 10;
 const ROUNDS: usize = 40;
 /// Names alone are short work: many walks of one record.
 const NAME_WALKS: usize = 1000;
+const STRINGS: usize = 256;
 
 /// Records of about this Length, as many as fit into a batch.
 fn batch(rng: &mut Random, length: usize) -> Vec<u8> {
@@ -48,6 +49,17 @@ fn long_name(rng: &mut Random, units: usize) -> Vec<u8> {
         source: text(rng, units),
         ..Made::default()
     };
+    made.encode(None)
+}
+
+/// One record with as many strings as there can be, all of this length.
+fn many_strings(rng: &mut Random, units: usize) -> Vec<u8> {
+    let mut made = Made::default();
+    for _ in 0..STRINGS {
+        made.strings.extend(text(rng, units));
+        made.strings.extend([0, 0]);
+        made.fields.num_strings += 1;
+    }
     made.encode(None)
 }
 
@@ -177,6 +189,47 @@ fn name_row(rng: &mut Random) {
     );
 }
 
+/// All strings of one record, after a step in turn, and each by its number.
+fn string_rows(rng: &mut Random) {
+    let record = many_strings(rng, 126);
+    let record = &record[..];
+    row(
+        "256 strings, one after another",
+        STRINGS,
+        &mut || {
+            let found = eventlog::step(black_box(record), 0).expect("it is good");
+            found.strings().map(|s| s.as_bytes().len()).sum()
+        },
+        &mut || {
+            let found = plain::step(black_box(record), 0).expect("it is good");
+            let run = (found.strings_at, found.strings.len());
+            let mut next = plain::next_string(record, run, run.0);
+            let mut sum = 0;
+            while next.refusal == 0 {
+                sum += next.len;
+                next = plain::next_string(record, run, next.next);
+            }
+            sum
+        },
+    );
+    row(
+        "256 strings, by number",
+        STRINGS,
+        &mut || {
+            (0..STRINGS as u32)
+                .map(|k| {
+                    eventlog::string(black_box(record), 0, k).map_or(0, |s| s.as_bytes().len())
+                })
+                .sum()
+        },
+        &mut || {
+            (0..STRINGS as u32)
+                .map(|k| plain::string(black_box(record), 0, k).len())
+                .sum()
+        },
+    );
+}
+
 fn main() {
     let mut rng = Random::new(1);
     println!(
@@ -192,4 +245,5 @@ fn main() {
         rows(&mut rng, name, length);
     }
     name_row(&mut rng);
+    string_rows(&mut rng);
 }
