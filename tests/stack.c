@@ -84,8 +84,8 @@ int main(void)
     } calls[] = {
         {"fresh", fresh}, {"step", step}, {"step_back", step_back}, {"refusal", refusal}, {"string", string},
         {"string_refusal", string_refusal}, {"next_string", next_string}, {"walk", walk}, {"walk_back", walk_back},
-        {"write", write_event}, {"append", append}, {"read forwards", forwards}, {"read backwards", backwards}, {"read seek", seek},
-        {"listing", listing},
+        {"write", write_event}, {"append", append}, {"read forwards", forwards}, {"read backwards", backwards},
+        {"read seek", seek}, {"listing", listing},
     };
     /* Records numbered from 4,294,967,294 on, so that a listing has long numbers; a seek finds the third, 0. */
     used = eventlog_write_event(UINT32_MAX - 1, &event, batch, sizeof batch).length;

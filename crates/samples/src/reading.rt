@@ -277,8 +277,8 @@ fn strings_by_number() {
 }
 
 // The string that starts at a place of a run of the log: its refusal, where it lies, and the place after it.
-fn show_next(what: &[u8], log: &[u8; 284], run: Part, place: usize) {
-    let x = strings::next_string(log, run, place);
+fn show_next(what: &[u8], run: Part, place: usize) {
+    let x = strings::next_string(&log(), run, place);
     line(
         what,
         &[
@@ -290,61 +290,36 @@ fn show_next(what: &[u8], log: &[u8; 284], run: Part, place: usize) {
     );
 }
 
-// Places of U's run, which lies from 256 to 272.
-fn strings_in_turn() {
-    let log = log();
-    let run = Part { at: 256, len: 16 };
-    show_next(b"next string at 256", &log, run, 256);
-    show_next(b"next string at 260", &log, run, 260);
-    show_next(b"next string at 262", &log, run, 262);
-    show_next(b"next string at 272", &log, run, 272);
-    show_next(b"next string at 255", &log, run, 255);
-    show_next(b"next string at 257", &log, run, 257);
-    show_next(b"next string at 263", &log, run, 263);
-    show_next(b"next string at 271", &log, run, 271);
-    show_next(
-        b"next string at the last number",
-        &log,
-        run,
-        0xffff_ffff_ffff_ffff,
-    );
+// The same of U's run, which lies from 256 to 272.
+fn next_of_u(what: &[u8], place: usize) {
+    show_next(what, Part { at: 256, len: 16 }, place);
 }
 
-// Runs that a step did not show.
+fn strings_in_turn() {
+    next_of_u(b"next string at 256", 256);
+    next_of_u(b"next string at 260", 260);
+    next_of_u(b"next string at 262", 262);
+    next_of_u(b"next string at 272", 272);
+    next_of_u(b"next string at 255", 255);
+    next_of_u(b"next string at 257", 257);
+    next_of_u(b"next string at 263", 263);
+    next_of_u(b"next string at 271", 271);
+    next_of_u(b"next string at the last number", 0xffff_ffff_ffff_ffff);
+}
+
+// A run that a step did not show.
+fn next_of_run(what: &[u8], at: usize, len: usize, place: usize) {
+    show_next(what, Part { at: at, len: len }, place);
+}
+
 fn runs_of_strings() {
-    let log = log();
     let last = 0xffff_ffff_ffff_ffff;
-    show_next(
-        b"a run that ends in a zero unit",
-        &log,
-        Part { at: 256, len: 15 },
-        262,
-    );
-    show_next(
-        b"a run to the buffer's end",
-        &log,
-        Part { at: 256, len: 28 },
-        272,
-    );
-    show_next(
-        b"a run past the buffer's end",
-        &log,
-        Part { at: 256, len: 29 },
-        256,
-    );
-    show_next(b"a run of no bytes", &log, Part { at: 60, len: 0 }, 60);
-    show_next(
-        b"a run at the last number",
-        &log,
-        Part { at: last, len: 1 },
-        last,
-    );
-    show_next(
-        b"a run as long as the last number",
-        &log,
-        Part { at: 256, len: last },
-        256,
-    );
+    next_of_run(b"a run that ends in a zero unit", 256, 15, 262);
+    next_of_run(b"a run to the buffer's end", 256, 28, 272);
+    next_of_run(b"a run past the buffer's end", 256, 29, 256);
+    next_of_run(b"a run of no bytes", 60, 0, 60);
+    next_of_run(b"a run at the last number", last, 1, last);
+    next_of_run(b"a run as long as the last number", 256, last, 256);
 }
 
 fn show_parts(what: &[u8], log: &[u8; 284], at: usize) {
