@@ -145,7 +145,7 @@ extern "C" {
 #define EVENTLOG_MAX_DATA 61440u
 #define EVENTLOG_MAX_READ 524287u
 #define EVENTLOG_LISTING_ROOM 64u
-#define EVENTLOG_MAX_STACK 2048u
+#define EVENTLOG_MAX_STACK 4096u
 
 /* ---- what is given and answered ---- */
 
