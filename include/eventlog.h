@@ -80,7 +80,7 @@ extern "C" {
 #define EVENTLOG_REFUSED_LENGTH2 5u
 /* The event type is none of the six (Rule 2.8). */
 #define EVENTLOG_REFUSED_EVENT_TYPE 6u
-/* The flags are not 0 or 0x8000. */
+/* The flags are not 0, and not 0x8000 with at least one string. */
 #define EVENTLOG_REFUSED_FLAGS 7u
 /* There are more than 256 strings. */
 #define EVENTLOG_REFUSED_STRING_COUNT 8u
@@ -130,7 +130,7 @@ extern "C" {
 #define EVENTLOG_AUDIT_SUCCESS 8u
 #define EVENTLOG_AUDIT_FAILURE 16u
 
-/* The one value of ReservedFlags but 0: the last string is XML. */
+/* The one value of ReservedFlags but 0: the last string is XML, so there is one at least. */
 #define EVENTLOG_FLAGS_XML 0x8000u
 
 /* Reserved, which every record has. */
@@ -464,7 +464,7 @@ static inline const char *eventlog_message(uint32_t number)
     case EVENTLOG_REFUSED_SIGNATURE: return "Reserved is not the signature";
     case EVENTLOG_REFUSED_LENGTH2: return "Length and Length2 differ";
     case EVENTLOG_REFUSED_EVENT_TYPE: return "the event type is none of the six";
-    case EVENTLOG_REFUSED_FLAGS: return "the flags are neither 0 nor 0x8000";
+    case EVENTLOG_REFUSED_FLAGS: return "the flags are neither 0 nor, with a string, 0x8000";
     case EVENTLOG_REFUSED_STRING_COUNT: return "there are more than 256 strings";
     case EVENTLOG_REFUSED_NAME: return "a name is not ended, or cannot be a name";
     case EVENTLOG_REFUSED_SID: return "the SID is wrong or misplaced";

@@ -245,6 +245,8 @@ static const struct {
     {__LINE__, T, 24, 3, 6, 6},
     {__LINE__, T, 24, 32, 6, 6},
     {__LINE__, T, 31, 0x40, 7, 7},
+    {__LINE__, S, 31, 0x80, 7, 7}, /* 0x8000 without a string */
+    {__LINE__, T, 26, 0, 7, 7},
     {__LINE__, T, 27, 1, 8, 8}, /* 257 strings */
     {__LINE__, S, 56, 1, 9, 9},
     {__LINE__, S, 58, 1, 9, 9},
@@ -504,6 +506,7 @@ static void numbers_and_texts_are_refused(void)
     REFUSES(6, e.fields.event_type = 3);
     REFUSES(6, e.fields.event_type = 32);
     REFUSES(7, e.fields.reserved_flags = 0x4000);
+    REFUSES(7, e.fields.reserved_flags = 0x8000; e.fields.num_strings = 0; e.strings = (eventlog_bytes){zeros, 0});
     REFUSES(7, e.fields.reserved_flags = 0x8001);
     REFUSES(8, e.fields.num_strings = 257; e.strings = (eventlog_bytes){zeros, 514});
     REFUSES(9, e.source_name.len = 9);
@@ -585,7 +588,7 @@ static void write_accepts_types_and_limits(void)
     ACCEPTS(64, e.fields.event_type = 4);
     ACCEPTS(64, e.fields.event_type = 8);
     ACCEPTS(64, e.fields.event_type = 16);
-    ACCEPTS(64, e.fields.reserved_flags = 0x8000);
+    ACCEPTS(68, e.fields.reserved_flags = 0x8000; e.fields.num_strings = 1; e.strings = (eventlog_bytes){zeros, 2});
     ACCEPTS(576, e.fields.num_strings = 256; e.strings = (eventlog_bytes){zeros, 512});
     ACCEPTS(65532, e.source_name = (eventlog_bytes){ones, 65468});
     ACCEPTS(132, e.sid = (eventlog_bytes){sid_of_15, 68});

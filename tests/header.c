@@ -98,7 +98,12 @@ static void limits(void)
     CHECK(w.refusal == EVENTLOG_NOT_REFUSED && w.length == EVENTLOG_MIN_LENGTH);
     CHECK(out[4] == (uint8_t)EVENTLOG_SIGNATURE && out[7] == EVENTLOG_SIGNATURE >> 24);
     event.fields.reserved_flags = EVENTLOG_FLAGS_XML;
-    CHECK(eventlog_write_event(1, &event, out, EVENTLOG_MIN_LENGTH).refusal == EVENTLOG_NOT_REFUSED);
+    CHECK(eventlog_write_event(1, &event, out, sizeof out).refusal == EVENTLOG_REFUSED_FLAGS);
+    event.fields.num_strings = 1;
+    event.strings.bytes = zeros;
+    event.strings.len = 2;
+    CHECK(eventlog_write_event(1, &event, out, sizeof out).refusal == EVENTLOG_NOT_REFUSED);
+    memset(&event, 0, sizeof event);
     memset(zeros, 1, sizeof zeros);
     event.source_name.bytes = zeros;
     event.source_name.len = EVENTLOG_MAX_LENGTH - EVENTLOG_MIN_LENGTH;

@@ -27,6 +27,11 @@ fn append_u(what: &[u8], log: &mut [u8], used: usize) {
 
 // Appends an event with no parts, every number 0 but the type.
 fn append_empty(what: &[u8], kind: u16, log: &mut [u8], used: usize) {
+    append_flags(what, kind, 0, log, used);
+}
+
+// The same with flags.
+fn append_flags(what: &[u8], kind: u16, flags: u16, log: &mut [u8], used: usize) {
     let f = Unnumbered {
         time_generated: 0,
         time_written: 0,
@@ -34,7 +39,7 @@ fn append_empty(what: &[u8], kind: u16, log: &mut [u8], used: usize) {
         event_type: kind,
         num_strings: 0,
         event_category: 0,
-        reserved_flags: 0,
+        reserved_flags: flags,
     };
     let a = append::append(log, used, f, b"", b"", b"", b"", b"");
     line(what, &[a.refusal as u64, a.used as u64]);
@@ -66,6 +71,7 @@ fn refusals() {
     let mut log = [0xaau8; 130];
     put(&mut log, 0, &s());
     append_empty(b"a type of 3", 3, &mut log, 64);
+    append_flags(b"flags 0x8000 without a string", 0, 0x8000, &mut log, 64);
     append_empty(b"behind a part of a record", 0, &mut log, 63);
     append_empty(b"behind bytes that are no record", 0, &mut log, 128);
     append_empty(b"used past the buffer", 0, &mut log, 131);

@@ -145,6 +145,18 @@ fn numbers() {
     changed(b"T with flags 1", 30, b"\x01");
     changed(b"T with flags 0x4000", 30, b"\0\x40");
     changed(b"T with flags 0x8000", 30, b"\0\x80");
+    changed(b"T with flags 0x8000 and no strings", 26, b"\0\0\0\0\0\x80");
+    changed(
+        b"T with flags 0x8000 and 300 strings",
+        26,
+        b"\x2c\x01\0\0\0\x80",
+    );
+    changed(b"T with flags 0x4000 and no strings", 26, b"\0\0\0\0\0\x40");
+    changed(
+        b"T with flags 0x4000 and 300 strings",
+        26,
+        b"\x2c\x01\0\0\0\x40",
+    );
     changed(b"T with 257 strings", 26, b"\x01\x01");
     changed(b"T with type 3 and flags 1", 24, b"\x03\0\x01\0\0\0\x01");
     changed(b"T with flags 1 and 257 strings", 26, b"\x01\x01\0\0\x01");

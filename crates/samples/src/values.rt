@@ -44,14 +44,23 @@ fn event_types() {
 
 fn flags() {
     line(
-        b"flags 0, 0x8000, 1, 0x4000, 0xc000, 0x8001",
+        b"flags 0, 0x8000, 1, 0x4000, 0xc000, 0x8001, with a string",
         &[
-            yes(content::is_reserved_flags(0)),
-            yes(content::is_reserved_flags(0x8000)),
-            yes(content::is_reserved_flags(1)),
-            yes(content::is_reserved_flags(0x4000)),
-            yes(content::is_reserved_flags(0xc000)),
-            yes(content::is_reserved_flags(0x8001)),
+            yes(content::is_reserved_flags(0, 1)),
+            yes(content::is_reserved_flags(0x8000, 1)),
+            yes(content::is_reserved_flags(1, 1)),
+            yes(content::is_reserved_flags(0x4000, 1)),
+            yes(content::is_reserved_flags(0xc000, 1)),
+            yes(content::is_reserved_flags(0x8001, 1)),
+        ],
+    );
+    line(
+        b"flags 0, 0x8000, 0x4000, without a string; 0x8000 with 300",
+        &[
+            yes(content::is_reserved_flags(0, 0)),
+            yes(content::is_reserved_flags(0x8000, 0)),
+            yes(content::is_reserved_flags(0x4000, 0)),
+            yes(content::is_reserved_flags(0x8000, 300)),
         ],
     );
 }

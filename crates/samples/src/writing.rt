@@ -103,6 +103,15 @@ fn numbers_refused() {
         b"",
     );
     event_of(
+        b"flags 0x8000 without a string",
+        numbers(7, 0, 0, 0x8000),
+        b"",
+        b"",
+        b"",
+        b"",
+        b"",
+    );
+    event_of(
         b"flags 0x8000 with a string",
         numbers(7, 0, 1, 0x8000),
         b"",

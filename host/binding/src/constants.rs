@@ -95,12 +95,14 @@ pub const LISTING_ROOM: usize = 64;
 pub const SIGNATURE: u32 = 0x654C_664C;
 
 /// The one value of [`Event::reserved_flags`](crate::Event::reserved_flags)
-/// other than 0: the last string is XML.
+/// other than 0: the last string is XML, so there is one at least.
 ///
 /// ```
-/// use eventlog::{write, Event, XML_FLAG};
-/// let event = Event { reserved_flags: XML_FLAG, ..Event::default() };
-/// assert!(write(1, &event, &mut [0; 64]).is_ok());
+/// use eventlog::{write, Event, Refusal, XML_FLAG};
+/// let none = Event { reserved_flags: XML_FLAG, ..Event::default() };
+/// assert_eq!(write(1, &none, &mut [0; 68]), Err(Refusal::Flags));
+/// let one = Event { num_strings: 1, strings: &[0, 0], ..none };
+/// assert!(write(1, &one, &mut [0; 68]).is_ok());
 /// ```
 pub const XML_FLAG: u16 = 0x8000;
 

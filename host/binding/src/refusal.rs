@@ -29,7 +29,7 @@ pub enum Refusal {
     Length2 = 5,
     /// The event type is none of the [six](crate::event_type).
     EventType = 6,
-    /// The flags are neither 0 nor 0x8000.
+    /// The flags are neither 0 nor, with at least one string, 0x8000.
     Flags = 7,
     /// There are more than 256 strings.
     StringCount = 8,
@@ -102,7 +102,7 @@ impl fmt::Display for Refusal {
             Refusal::Signature => "Reserved is not the signature",
             Refusal::Length2 => "Length and Length2 differ",
             Refusal::EventType => "the event type is none of the six",
-            Refusal::Flags => "the flags are neither 0 nor 0x8000",
+            Refusal::Flags => "the flags are neither 0 nor, with a string, 0x8000",
             Refusal::StringCount => "there are more than 256 strings",
             Refusal::Name => "a name is not ended, or cannot be a name",
             Refusal::Sid => "the SID is wrong or misplaced",

@@ -125,7 +125,7 @@ impl Made {
             event_type: rng.pick(&TYPES),
             num_strings: 0,
             event_category: rng.bits() as u16,
-            reserved_flags: rng.pick(&[0, 0x8000]),
+            reserved_flags: 0,
         };
         let mut made = Made {
             fields,
@@ -138,6 +138,9 @@ impl Made {
             Size::Small => made.fill(rng, 6, 4, 5, 20),
             Size::Medium => made.fill(rng, 150, 256, 9, 1500),
             Size::Large => made.fill_large(rng),
+        }
+        if made.fields.num_strings > 0 {
+            made.fields.reserved_flags = rng.pick(&[0, 0x8000]);
         }
         made
     }
@@ -228,7 +231,7 @@ impl Made {
 
     fn corrupt(&mut self, rng: &mut Random) {
         let f = &mut self.fields;
-        match rng.below(16) {
+        match rng.below(17) {
             0 => {
                 f.event_type = match rng.below(3) {
                     0 => 1 << rng.below(16),
@@ -237,6 +240,7 @@ impl Made {
                 }
             }
             1 => f.reserved_flags = 1 << rng.below(16) | rng.pick(&[0, 0x8000]),
+            16 => f.reserved_flags = 0x8000,
             2 => f.num_strings = rng.pick(&[0, 1, 255, 256, 257, 258, 0x8000, 0xFFFF]),
             3 => f.num_strings = f.num_strings.wrapping_add(rng.pick(&[1, 0xFFFF])),
             4 => corrupt_text(rng, &mut self.source),
@@ -581,7 +585,7 @@ pub fn noise(rng: &mut Random) -> Vec<u8> {
     put_some(4, 4, 0x654C_664C);
     put_some(length - 4, 4, length as u32);
     put_some(24, 2, 2);
-    put_some(30, 2, 0x8000);
+    put_some(30, 2, 0);
     put_some(26, 2, 0);
     put_some(40, 4, 0);
     put_some(48, 4, 0);

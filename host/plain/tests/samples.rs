@@ -106,6 +106,9 @@ fn t_changed() {
     assert_eq!(both(&with16(&T, 24, 16)), (0, 0));
     assert_eq!(both(&with16(&T, 30, 0x8000)), (0, 0));
     assert_eq!(both(&with16(&T, 30, 0x4000)), (7, 7));
+    let many = with16(&T, 26, 300);
+    assert_eq!(both(&with16(&many, 30, 0x8000)), (8, 8));
+    assert_eq!(both(&with16(&many, 30, 0x4000)), (7, 7));
 }
 
 #[test]
@@ -116,6 +119,8 @@ fn s_changed() {
     let longer = with32(&longer, 0, 68);
     assert_eq!(both(&longer), (13, 13));
     assert_eq!(both(&with32(&S, 0, 60)), (2, 5));
+    assert_eq!(both(&with16(&S, 30, 0x8000)), (7, 7));
+    assert_eq!(both(&with16(&S, 30, 0x4000)), (7, 7));
     assert_eq!(both(&with32(&S, 60, 60)), (5, 2));
 }
 

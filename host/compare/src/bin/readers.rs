@@ -57,8 +57,10 @@ fn event(rng: &mut Random, record_number: u32) -> Made {
     f.event_id = rng.bits() as u32;
     f.event_type = rng.pick(&EVENT_TYPES);
     f.event_category = rng.bits() as u16;
-    f.reserved_flags = rng.pick(&[0, 0x8000]);
     f.num_strings = rng.below(6) as u16;
+    if f.num_strings > 0 {
+        f.reserved_flags = rng.pick(&[0, 0x8000]);
+    }
     let (source, computer) = (rng.range(1, 20), rng.range(1, 20));
     made.source = letters(rng, source);
     // An even number of units in both, so that the names end on a multiple of 4.
