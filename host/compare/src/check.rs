@@ -426,7 +426,7 @@ impl Check {
         self.count_case(Case::FarRecord, number == 0 && at > FAR);
         let length = proved.as_ref().map_or(0, |seen| seen.length);
         self.count_case(Case::LongestRecord, length == MAX_LENGTH);
-        self.count_case(Case::ZeroUnit, number == 0 && length % FAR == 0);
+        self.count_case(Case::ZeroUnit, number == 0 && length.is_multiple_of(FAR));
         let too_long = number == 2 && s.len() - at >= TOO_LONG;
         let too_long = too_long && get(s, at, 4) == TOO_LONG as u32;
         self.count_case(Case::TooLongRecord, too_long);
@@ -466,7 +466,7 @@ impl Check {
         if steps != (Err(refusal), Err(refusal)) || walks != expected {
             self.differ("a text without an end", &[log], &expected, &(steps, walks));
         }
-        let zero_unit = record.len() % FAR == 0;
+        let zero_unit = record.len().is_multiple_of(FAR);
         self.count_case(Case::ZeroUnitName, zero_unit && refusal == 9);
         self.count_case(Case::ZeroUnitString, zero_unit && refusal == 11);
     }

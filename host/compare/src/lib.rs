@@ -202,7 +202,7 @@ fn noise(rng: &mut Random, check: &mut Check) {
     }
 }
 
-/// The longest records, and small changes of them.
+/// Large records, and small changes of them.
 fn limits(rng: &mut Random, check: &mut Check) {
     for _ in 0..4 {
         let mut made = Made::good(rng, Size::Large);
@@ -231,7 +231,10 @@ fn limits(rng: &mut Random, check: &mut Check) {
 fn lengths(rng: &mut Random, check: &mut Check) {
     let length = rng.pick(&[&make::EDGES[..], &[make::TOO_LONG]].concat());
     let mut made = Made::good(rng, Size::Small);
-    if length > 2 * make::MAX_DATA && rng.once_in(2) {
+    if length < 65_000 {
+        made = Made::default();
+    }
+    if length < 65_000 || length > 130_000 && rng.once_in(2) {
         made.data = rng.bytes(make::MAX_DATA);
     }
     made.fit(rng, length);
