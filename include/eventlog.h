@@ -20,7 +20,7 @@
  * A record, places counted from its start (section 2):
  *
  *    place  bytes  field
- *        0      4  Length, of the whole record: 64 to 65,532, a multiple of 4
+ *        0      4  Length, of the whole record: 64 to 262,140, a multiple of 4
  *        4      4  Reserved, 0x654C664C
  *        8      4  RecordNumber
  *       12      4  TimeGenerated, seconds since 1970
@@ -139,7 +139,7 @@ extern "C" {
 /* Limits: a record's Length, its strings, its SID's and its data's bytes; the size that a read may ask; how much
  * more than the batch is always enough for a listing's output; a call's stack. */
 #define EVENTLOG_MIN_LENGTH 64u
-#define EVENTLOG_MAX_LENGTH 65532u
+#define EVENTLOG_MAX_LENGTH 262140u
 #define EVENTLOG_MAX_STRINGS 256u
 #define EVENTLOG_MAX_SID 68u
 #define EVENTLOG_MAX_DATA 61440u

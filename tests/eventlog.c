@@ -236,7 +236,12 @@ static const struct {
 } corrupted[] = {
     {__LINE__, S, 0, 60, 2, 5},
     {__LINE__, T, 0, 102, 2, 5},
-    {__LINE__, T, 2, 1, 2, 5}, /* Length 65,640 */
+    {__LINE__, T, 2, 1, 3, 5}, /* Length 65,640 */
+    {__LINE__, T, 2, 3, 3, 5}, /* 196,712 */
+    {__LINE__, T, 2, 4, 2, 5}, /* 262,248 */
+    {__LINE__, T, 3, 1, 2, 5}, /* 16,777,320 */
+    {__LINE__, T, 102, 1, 5, 3},
+    {__LINE__, T, 102, 4, 5, 2},
     {__LINE__, T, 0, 108, 3, 5},
     {__LINE__, T, 4, 0, 4, 4},
     {__LINE__, T, 100, 60, 5, 2},
@@ -440,10 +445,11 @@ static void walks_answer(void)
 static const uint8_t zeros[61441];
 static const uint8_t sid_of_15[68] = {1, 15};
 static const uint8_t sid_of_16[72] = {1, 16};
-static uint8_t ones[65470];
+static uint8_t ones[262144];
 
-/* Each output and its copy, which gets what is to be written. */
+/* Each output and its copy, which gets what is to be written. An output for any record has room for some more bytes. */
 static uint8_t out[524288], want[524288];
+enum { ROOM = 262148 };
 
 static void lend(size_t n)
 {
@@ -470,11 +476,11 @@ static void write_lays_out(void)
 
 static void write_refuses(int line, eventlog_event e, size_t out_len, uint32_t refusal)
 {
-    lend(65540);
+    lend(ROOM);
     eventlog_written w = write_event(T_NUMBER, e, out, out_len);
     CHECK_AT(line, w.refusal == refusal);
     CHECK_AT(line, w.length == 0);
-    CHECK_AT(line, memcmp(out, want, 65540) == 0);
+    CHECK_AT(line, memcmp(out, want, ROOM) == 0);
 }
 
 enum { LOG = 200 };
@@ -497,7 +503,7 @@ static void append_refuses(int line, size_t log_len, size_t used, eventlog_event
     do {                                                 \
         eventlog_event e = event_t;                      \
         __VA_ARGS__;                                     \
-        write_refuses(__LINE__, e, 65540, refusal);      \
+        write_refuses(__LINE__, e, ROOM, refusal);       \
         append_refuses(__LINE__, LOG, END, e, refusal);  \
     } while (0)
 
@@ -528,8 +534,9 @@ static void numbers_and_texts_are_refused(void)
 static void sizes_are_refused(void)
 {
     REFUSES(12, e.event_data = (eventlog_bytes){zeros, 61441});
-    REFUSES(2, e.source_name = (eventlog_bytes){ones, 65400}; e.computer_name = (eventlog_bytes){ones, 200});
-    REFUSES(2, e = event_s; e.source_name = (eventlog_bytes){ones, 65470});
+    REFUSES(2, e.source_name = (eventlog_bytes){ones, 262000}; e.computer_name = (eventlog_bytes){ones, 200});
+    REFUSES(2, e = event_s; e.source_name = (eventlog_bytes){ones, 262078});
+    REFUSES(2, e = event_s; e.source_name = (eventlog_bytes){ones, 262080});
     write_refuses(__LINE__, event_t, T_LENGTH - 1, 15);
     write_refuses(__LINE__, event_s, S_LENGTH - 1, 15);
     eventlog_written w = write_event(S_NUMBER, event_s, NULL, 0);
@@ -540,7 +547,7 @@ static void sizes_are_refused(void)
 static void write_refuses_in_order(void)
 {
     eventlog_event e = {.fields = {.event_type = 3, .reserved_flags = 0x4000, .num_strings = 257},
-                        .source_name = {ones, 65469}, .computer_name = {zeros, 2}, .sid = {zeros, 8},
+                        .source_name = {ones, 262077}, .computer_name = {zeros, 2}, .sid = {zeros, 8},
                         .strings = {zeros, 3}, .event_data = {zeros, 61441}};
     write_refuses(__LINE__, e, 63, 6);
     e.fields.event_type = 1;
@@ -549,7 +556,7 @@ static void write_refuses_in_order(void)
     write_refuses(__LINE__, e, 63, 8);
     e.fields.num_strings = 256;
     write_refuses(__LINE__, e, 63, 9);
-    e.source_name.len = 65468;
+    e.source_name.len = 262076;
     write_refuses(__LINE__, e, 63, 9);
     e.computer_name.len = 0;
     write_refuses(__LINE__, e, 63, 10);
@@ -565,12 +572,13 @@ static void write_refuses_in_order(void)
 
 static void write_accepts(int line, eventlog_event e, size_t length)
 {
-    lend(65540);
+    lend(ROOM);
     eventlog_written w = write_event(T_NUMBER, e, out, length);
     CHECK_AT(line, w.refusal == 0);
     CHECK_AT(line, w.length == length);
-    CHECK_AT(line, memcmp(out + length, want + length, 65540 - length) == 0);
+    CHECK_AT(line, memcmp(out + length, want + length, ROOM - length) == 0);
     CHECK_AT(line, eventlog_refusal(out, length, 0) == 0);
+    CHECK_AT(line, eventlog_step_back(out, length, length).refusal == 0);
 }
 
 /* S with a change is accepted and has this Length. */
@@ -591,6 +599,11 @@ static void write_accepts_types_and_limits(void)
     ACCEPTS(68, e.fields.reserved_flags = 0x8000; e.fields.num_strings = 1; e.strings = (eventlog_bytes){zeros, 2});
     ACCEPTS(576, e.fields.num_strings = 256; e.strings = (eventlog_bytes){zeros, 512});
     ACCEPTS(65532, e.source_name = (eventlog_bytes){ones, 65468});
+    ACCEPTS(65536, e.source_name = (eventlog_bytes){ones, 65472});
+    ACCEPTS(131072, e.source_name = (eventlog_bytes){ones, 131008});
+    ACCEPTS(196608, e.computer_name = (eventlog_bytes){ones, 196544});
+    ACCEPTS(262136, e.computer_name = (eventlog_bytes){ones, 262072});
+    ACCEPTS(262140, e.source_name = (eventlog_bytes){ones, 262076});
     ACCEPTS(132, e.sid = (eventlog_bytes){sid_of_15, 68});
     ACCEPTS(61504, e.event_data = (eventlog_bytes){zeros, 61440});
 }
@@ -804,6 +817,100 @@ static void read_goes_on(void)
     CHECK(r.status == 0 && r.handle.boundary == S_LENGTH);
 }
 
+/* ---- long records ---- */
+
+/* Four bytes, the low one first. */
+static void put(uint8_t *p, size_t number)
+{
+    for (int i = 0; i < 4; i++)
+        p[i] = (uint8_t)(number >> 8 * i);
+}
+
+/* The refusal, the same from both ends, of S with another Length and so many strings. From its names on it has some
+ * zero bytes, then units that are not zero, and some zero bytes before Length2. */
+static uint32_t refusal_of(size_t length, uint8_t strings, size_t first, size_t last)
+{
+    memcpy(out, batch + S, 56);
+    memset(out + 56, 1, length - 60);
+    memset(out + 56, 0, first);
+    memset(out + length - 4 - last, 0, last);
+    put(out, length);
+    put(out + length - 4, length);
+    out[26] = strings;
+    put(out + 36, 60);
+    uint32_t refusal = eventlog_refusal(out, length, 0);
+    CHECK(eventlog_step(out, length, 0).refusal == refusal);
+    CHECK(eventlog_step_back(out, length, length).refusal == refusal);
+    CHECK(eventlog_walk(out, length).refusal == refusal && eventlog_walk_back(out, length).refusal == refusal);
+    return refusal;
+}
+
+/* The first unit of Length2 is zero at these Lengths, and ends no text; a zero unit before it does. */
+static void length2_ends_no_text(void)
+{
+    static const size_t lengths[] = {65536, 131072, 196608};
+    for (size_t i = 0; i < COUNT(lengths); i++) {
+        CHECK(refusal_of(lengths[i], 0, 0, 0) == 9);
+        CHECK(refusal_of(lengths[i], 0, 0, 2) == 9);
+        CHECK(refusal_of(lengths[i], 0, 0, 4) == 0);
+        CHECK(refusal_of(lengths[i], 0, 2, 0) == 9);
+        CHECK(refusal_of(lengths[i], 0, 2, 2) == 0);
+        CHECK(refusal_of(lengths[i], 1, 4, 0) == 11);
+        CHECK(refusal_of(lengths[i], 1, 4, 2) == 0);
+        CHECK(refusal_of(lengths[i], 2, 4, 2) == 11);
+        CHECK(refusal_of(lengths[i], 2, 4, 4) == 0);
+    }
+    CHECK(refusal_of(262140, 0, 2, 2) == 0);
+    CHECK(refusal_of(262144, 0, 2, 2) == 2);
+}
+
+/* The longest record between S and T: appended, walked, and read from both ends. */
+static void longest_record_in_a_log(void)
+{
+    enum { LONGEST = 262140, LONG_END = S_LENGTH + LONGEST, LONG_LOG = LONG_END + T_LENGTH };
+    static uint8_t log[LONG_LOG];
+    eventlog_event e = event_t;
+    e.fields.num_strings = 256;
+    e.strings = (eventlog_bytes){zeros, 512};
+    e.event_data = (eventlog_bytes){zeros, 61440};
+    /* The fixed part, the rest of the names, the SID and Length2 take 56, 8, 12 and 4 bytes, and there is no gap. */
+    e.source_name = (eventlog_bytes){ones, LONGEST - 512 - 61440 - 80};
+    memcpy(log, batch + S, S_LENGTH);
+    eventlog_appended a = append_event(log, LONG_END - 1, S_LENGTH, e);
+    CHECK(a.refusal == 15 && a.used == S_LENGTH);
+    a = append_event(log, LONG_END, S_LENGTH, e);
+    CHECK(a.refusal == 0 && a.used == LONG_END);
+    a = append_event(log, LONG_LOG, LONG_END, event_t);
+    CHECK(a.refusal == 0 && a.used == LONG_LOG);
+    eventlog_walked front = WALKED(3, 0, LONG_LOG), rear = WALKED(3, 0, 0);
+    CHECK(same_walked(eventlog_walk(log, LONG_LOG), front));
+    CHECK(same_walked(eventlog_walk_back(log, LONG_LOG), rear));
+    eventlog_record found = eventlog_step(log, LONG_LOG, S_LENGTH).found;
+    CHECK(found.length == LONGEST && found.event_data.at == LONG_END - 4 - 61440);
+    CHECK(same_part(eventlog_string(log, LONG_LOG, S_LENGTH, 255),
+                    (eventlog_part){.at = found.event_data.at - 2, .len = 0}));
+    CHECK(same_parts(found, eventlog_step_back(log, LONG_LOG, LONG_END).found));
+
+    static const struct {
+        eventlog_handle h;
+        uint32_t flags;
+        size_t boundary;
+    } rows[] = {
+        {BOUNDARY(S_LENGTH), FORWARDS, LONG_END},
+        {BOUNDARY(LONG_END), BACKWARDS, S_LENGTH},
+    };
+    for (size_t i = 0; i < COUNT(rows); i++) {
+        lend(ROOM);
+        eventlog_answer r = eventlog_read(rows[i].h, log, LONG_LOG, rows[i].flags, 0, LONGEST - 1, out, sizeof out);
+        CHECK(r.status == 0xC0000023 && r.read == 0 && r.needed == LONGEST);
+        CHECK(memcmp(out, want, ROOM) == 0);
+        memcpy(want, log + S_LENGTH, LONGEST);
+        r = eventlog_read(rows[i].h, log, LONG_LOG, rows[i].flags, 0, LONGEST, out, sizeof out);
+        CHECK(r.status == 0 && r.read == LONGEST && r.needed == 0 && r.handle.boundary == rows[i].boundary);
+        CHECK(memcmp(out, want, ROOM) == 0);
+    }
+}
+
 /* ---- listing ---- */
 
 static void listing_answers(void)
@@ -947,6 +1054,8 @@ int main(void)
     read_copies();
     read_refuses();
     read_goes_on();
+    length2_ends_no_text();
+    longest_record_in_a_log();
     listing_answers();
     events_are_taken_apart();
     exchanges_show();

@@ -42,6 +42,26 @@ printf '\0' >>"$room/input"
 printf 'refused 16 at 0\n' >"$room/wanted"
 same '65,537 bytes' "$room/input" "$room/wanted"
 
+# one record of 65,536 bytes, the longest that the program lists: its source name has 65,472 of them
+long() { # LENGTH: this record with another Length, as bytes of octal numbers
+    printf '%b' "$1"
+    head -c 56 "$sample" | tail -c 52
+    head -c 65472 /dev/zero | tr '\0' a
+    head -c 4 /dev/zero
+    printf '\0\0\1\0'
+}
+long '\0000\0000\0001\0000' >"$room/input"
+printf 'records 1\n0 65536 7\n' >"$room/wanted"
+same 'one record of 65,536 bytes' "$room/input" "$room/wanted"
+
+# Length 262,140 is more than the bytes left, Length 262,144 is no Length
+long '\0374\0377\0003\0000' >"$room/input"
+printf 'refused 3 at 0\n' >"$room/wanted"
+same 'Length 262,140' "$room/input" "$room/wanted"
+long '\0000\0000\0004\0000' >"$room/input"
+printf 'refused 2 at 0\n' >"$room/wanted"
+same 'Length 262,144' "$room/input" "$room/wanted"
+
 # a folder cannot be read: that is said on standard error, and no listing is written
 "$program" <"$room" >"$room/got" 2>"$room/said" || true
 if [ -s "$room/got" ] || ! grep -q '^standard input' "$room/said"; then

@@ -35,13 +35,13 @@ static size_t used_by(void (*call)(void))
     return STACK - untouched;
 }
 
-static uint8_t batch[200000], out[EVENTLOG_MAX_READ];
+static uint8_t batch[5 * EVENTLOG_MAX_LENGTH], out[EVENTLOG_MAX_READ], name[200000];
 static size_t used;
 
 /* A record with every part, a large number and long places: each way through the code is gone. */
 static const eventlog_event event = {
     .fields = {.event_type = EVENTLOG_AUDIT_FAILURE, .num_strings = 2, .reserved_flags = EVENTLOG_FLAGS_XML},
-    .source_name = EVENTLOG_NAME(u"Scale"), .computer_name = EVENTLOG_NAME(u"T1"),
+    .source_name = {name, sizeof name}, .computer_name = EVENTLOG_NAME(u"T1"),
     .sid = {(const uint8_t *)"\1\1\0\0\0\0\0\5\22\0\0", 12}, .strings = EVENTLOG_STRINGS(u"OK\0fine"),
     .event_data = {batch, 30000},
 };
@@ -87,6 +87,7 @@ int main(void)
         {"write", write_event}, {"append", append}, {"read forwards", forwards}, {"read backwards", backwards},
         {"read seek", seek}, {"listing", listing},
     };
+    memset(name, 1, sizeof name);
     /* Records numbered from 4,294,967,294 on, so that a listing has long numbers; a seek finds the third, 0. */
     used = eventlog_write_event(UINT32_MAX - 1, &event, batch, sizeof batch).length;
     for (int i = 0; i < 3; i++)

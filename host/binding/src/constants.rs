@@ -12,15 +12,15 @@ pub const MIN_LENGTH: usize = 64;
 ///
 /// ```
 /// use eventlog::{write, Event, Refusal, Text, MAX_LENGTH, MIN_LENGTH};
-/// let name = [1; MAX_LENGTH];
-/// let of = |len| {
+/// let (name, mut out) = (vec![1; MAX_LENGTH], vec![0; MAX_LENGTH]);
+/// let mut of = |len| {
 ///     let source_name = Text::new(&name[..len]);
-///     write(1, &Event { source_name, ..Event::default() }, &mut [0; MAX_LENGTH])
+///     write(1, &Event { source_name, ..Event::default() }, &mut out)
 /// };
 /// assert_eq!(of(MAX_LENGTH - MIN_LENGTH), Ok(MAX_LENGTH));
 /// assert_eq!(of(MAX_LENGTH), Err(Refusal::Length));
 /// ```
-pub const MAX_LENGTH: usize = 65_532;
+pub const MAX_LENGTH: usize = 262_140;
 
 /// The most strings in a record.
 ///
@@ -52,8 +52,8 @@ pub const MAX_SID: usize = 68;
 ///
 /// ```
 /// use eventlog::{write, Event, Refusal, MAX_DATA, MAX_LENGTH};
-/// let data = [0; MAX_DATA + 1];
-/// let of = |event_data| write(1, &Event { event_data, ..Event::default() }, &mut [0; MAX_LENGTH]);
+/// let (data, mut out) = ([0; MAX_DATA + 1], vec![0; MAX_LENGTH]);
+/// let mut of = |event_data| write(1, &Event { event_data, ..Event::default() }, &mut out);
 /// assert!(of(&data[1..]).is_ok());
 /// assert_eq!(of(&data), Err(Refusal::Data));
 /// ```

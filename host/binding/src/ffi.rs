@@ -380,7 +380,7 @@ mod tests {
     }
 
     static TOO_MUCH_DATA: [u8; 61_441] = [0; 61_441];
-    static TOO_LONG_NAME: [u8; 65_532] = [1; 65_532];
+    static TOO_LONG_NAME: [u8; 262_140] = [1; 262_140];
 
     /// Events with each refusal of the writer but that of the output.
     fn refused_events() -> [(u32, Event<'static>); 8] {

@@ -360,7 +360,7 @@ fn most_strings() {
 
 #[test]
 fn longest_record() {
-    let (name, data) = ([b'x', 0].repeat(2016), vec![0; 61_440]);
+    let (name, data) = ([b'x', 0].repeat(100_320), vec![0; 61_440]);
     let of_length = |units: usize, record: &mut [u8]| {
         let event = Event {
             source_name: Text::new(&name[..2 * units]),
@@ -369,13 +369,158 @@ fn longest_record() {
         };
         write(S_NUMBER, &event, record)
     };
-    let mut record = vec![0; 65_536];
-    assert_eq!(of_length(2014, &mut record), Ok(65_532));
+    let mut record = vec![0; 262_144];
+    assert_eq!(of_length(100_318, &mut record), Ok(262_140));
     assert_eq!(refusal(&record, 0), None);
-    assert_eq!(of_length(2016, &mut record), Err(Refusal::Length));
-    record[..4].copy_from_slice(&65_536u32.to_le_bytes());
-    record[65_532..].copy_from_slice(&65_536u32.to_le_bytes());
+    assert_eq!(of_length(100_319, &mut record), Err(Refusal::Length));
+    assert_eq!(of_length(100_320, &mut record), Err(Refusal::Length));
+    record[..4].copy_from_slice(&262_144u32.to_le_bytes());
+    record[262_140..].copy_from_slice(&262_144u32.to_le_bytes());
     assert_eq!(refusal(&record, 0), Some(Refusal::Length));
+    let back = refused(step_back(&record, 262_144));
+    assert_eq!(back, (Refusal::Length, 262_144));
+}
+
+/// The largest Length with every part: two names, a SID, as many strings and as
+/// much data as there can be.
+#[test]
+fn longest_record_of_every_part() {
+    let source = [b's', 0].repeat(40_000);
+    let computer = [b'c', 0].repeat(10_001);
+    let sid = [&[1, 15][..], &[5; 66]].concat();
+    let strings: Vec<Vec<u8>> = (0..256u16)
+        .map(|k| {
+            (k + 1)
+                .to_le_bytes()
+                .repeat(if k < 255 { 195 } else { 300 })
+        })
+        .collect();
+    let run: Vec<u8> = strings
+        .iter()
+        .flat_map(|s| s.iter().copied().chain([0, 0]))
+        .collect();
+    let data = vec![0xD1; 61_440];
+    let event = Event {
+        event_type: event_type::AUDIT_FAILURE,
+        num_strings: 256,
+        reserved_flags: XML_FLAG,
+        source_name: Text::new(&source),
+        computer_name: Text::new(&computer),
+        sid: &sid,
+        strings: &run,
+        event_data: &data,
+        ..Event::default()
+    };
+
+    let mut record = vec![0xAA; MAX_LENGTH + 4];
+    assert_eq!(
+        write(T_NUMBER, &event, &mut record[..MAX_LENGTH - 1]),
+        Err(Refusal::Output)
+    );
+    assert!(record.iter().all(|b| *b == 0xAA));
+    assert_eq!(write(T_NUMBER, &event, &mut record), Ok(262_140));
+    assert_eq!(record[MAX_LENGTH..], [0xAA; 4]);
+    record.truncate(MAX_LENGTH);
+
+    let found = step(&record, 0).unwrap();
+    assert_eq!(step_back(&record, 262_140), Ok(found));
+    assert_eq!((found.start, found.length), (0, 262_140));
+    assert_eq!((found.record_number, found.event), (T_NUMBER, event));
+    let places = found.places;
+    assert_eq!((places.source_name, places.computer_name), (56, 80_058));
+    let places = [places.sid, places.strings, places.event_data];
+    assert_eq!(places, [100_064, 100_132, 200_694]);
+    assert!(found.strings().map(Text::as_bytes).eq(strings.iter()));
+    for (k, string) in strings.iter().enumerate() {
+        assert_eq!(found.string(k as u32), Ok(Text::new(string)));
+    }
+    for k in [0, 128, 255] {
+        assert_eq!(string(&record, 0, k), Ok(Text::new(&strings[k as usize])));
+    }
+    assert_eq!(string(&record, 0, 256), Err(Refusal::NoString));
+
+    // In a log: between S and T, walked and served from both ends.
+    let end = 64 + MAX_LENGTH;
+    let mut log = vec![0; end + 104];
+    log[..64].copy_from_slice(&S);
+    let short = append(&mut log[..end - 1], 64, &event);
+    assert_eq!(short, Err(Refusal::Output));
+    assert_eq!(append(&mut log, 64, &event), Ok(end));
+    assert_eq!(log[64..end], record);
+    assert_eq!(append(&mut log, end, &t_event()), Ok(end + 104));
+    assert_eq!((walk(&log), walk_back(&log)), (Ok(3), Ok(3)));
+    assert!(records(&log).eq([0, 64, end].map(|at| step(&log, at))));
+    assert!(records_back(&log).eq([end, 64, 0].map(|at| step(&log, at))));
+    let mut text = [0; 100];
+    assert_eq!(
+        listing(&log, &mut text),
+        Ok("records 3\n0 64 7\n64 262140 8\n262204 104 9\n")
+    );
+    for (direction, from, to) in [
+        (Direction::Forwards, 64, end),
+        (Direction::Backwards, end, 64),
+    ] {
+        let handle = || Handle {
+            place: Place::Boundary(from),
+        };
+        let kind = ReadKind::Sequential;
+        let mut out = vec![0xAA; MAX_LENGTH + 1];
+        let small = handle().read(&log, kind, direction, MAX_LENGTH - 1, &mut out);
+        let needed = MAX_LENGTH;
+        assert_eq!(small.unwrap_err().status, Status::BufferTooSmall { needed });
+        let batch = handle().read(&log, kind, direction, MAX_LENGTH, &mut out);
+        let batch = batch.unwrap();
+        assert_eq!(batch.bytes, record);
+        assert_eq!(batch.handle.place, Place::Boundary(to));
+        assert_eq!(out[MAX_LENGTH], 0xAA);
+        // A seek finds it, and the other two records fit with it.
+        let mut out = vec![0; MAX_READ];
+        let sought = handle().read(&log, ReadKind::Seek(8), direction, MAX_READ, &mut out);
+        let expected = match direction {
+            Direction::Forwards => log[64..].to_vec(),
+            Direction::Backwards => [&log[64..end], &log[..64]].concat(),
+        };
+        assert_eq!(sought.unwrap().bytes, expected);
+    }
+
+    // One unit more in a string fills a gap, two are too long.
+    let run = [&[1; 4][..], &run].concat();
+    for (more, answer) in [(2, Ok(262_140)), (4, Err(Refusal::Length))] {
+        let strings = &run[4 - more..];
+        let longer = Event { strings, ..event };
+        assert_eq!(write(T_NUMBER, &longer, &mut record), answer);
+        assert_eq!(append(&mut log, 64, &longer).is_ok(), answer.is_ok());
+    }
+}
+
+/// At these Lengths the first unit of Length2 is zero. It ends no name and no
+/// string; a zero unit right before it does.
+#[test]
+fn texts_that_run_up_to_length2() {
+    for length in [65_536, 131_072, 196_608] {
+        let of = |zeros: usize, num_strings: u8, last: usize| {
+            let mut record = [&S[..56], &vec![0; zeros]].concat();
+            record.resize(length - 4 - last, 1);
+            record.resize(length - 4, 0);
+            record.extend((length as u32).to_le_bytes());
+            record[..4].copy_from_slice(&(length as u32).to_le_bytes());
+            (record[26], record[36]) = (num_strings, 60);
+            assert_eq!(record[length - 4..length - 2], [0, 0]);
+            let front = refusal(&record, 0);
+            let back = step_back(&record, length).err().map(|bad| bad.refusal);
+            assert_eq!(front, back);
+            front
+        };
+        assert_eq!(of(0, 0, 0), Some(Refusal::Name));
+        assert_eq!(of(0, 0, 2), Some(Refusal::Name));
+        assert_eq!(of(0, 0, 4), None);
+        assert_eq!(of(2, 0, 0), Some(Refusal::Name));
+        assert_eq!(of(2, 0, 2), None);
+        assert_eq!(of(4, 1, 0), Some(Refusal::Strings));
+        assert_eq!(of(4, 1, 2), None);
+        assert_eq!(of(4, 2, 2), Some(Refusal::Strings));
+        assert_eq!(of(4, 2, 4), None);
+    }
 }
 
 #[test]

@@ -4,13 +4,13 @@ use std::collections::HashSet;
 use std::fmt::{Debug, Write};
 use std::hash::{DefaultHasher, Hasher};
 use std::io::{ErrorKind, Write as _};
-use std::ops::RangeInclusive;
+use std::ops::{Range, RangeInclusive};
 use std::path::Path;
 use std::process::{Command, Output, Stdio};
 
 use eventlog::{Direction, ReadKind, Refusal, Run, Text};
 
-use crate::make::Made;
+use crate::make::{get, Made, MAX_LENGTH, TOO_LONG};
 
 /// The calls that refuse, and the listing program.
 #[derive(Clone, Copy, Debug, PartialEq, Eq)]
@@ -35,7 +35,8 @@ const JUDGES: [Call; 4] = [Call::Step, Call::StepBack, Call::Walk, Call::WalkBac
 /// What has to occur beside every refusal and status. Far is a place past
 /// 65,536, long a batch of more bytes than that, full one of 65,000 to 65,536,
 /// large a record of at least half of them, a long read one of more than 500,000
-/// bytes.
+/// bytes. The longest record has the largest Length; too long is the next Length,
+/// with all its bytes there.
 #[derive(Clone, Copy, Debug, PartialEq, Eq)]
 pub enum Case {
     /// A record read at a far place.
@@ -76,9 +77,35 @@ pub enum Case {
     LargeAppendRefused,
     /// A record appended behind the number 4,294,967,295.
     WrappedNumber,
+    /// The longest record read,
+    LongestRecord,
+    /// and from the rear.
+    LongestRecordBack,
+    /// A record refused as too long,
+    TooLongRecord,
+    /// and from the rear.
+    TooLongRecordBack,
+    /// The longest record written.
+    LongestWrite,
+    /// An event refused, as its record would be too long.
+    TooLongWrite,
+    /// The longest record appended.
+    LongestAppend,
+    /// A read of the longest record and nothing else.
+    LongestRead,
+    /// A read refused that would have to ask for the largest Length.
+    LongestNeeded,
+    /// A good record with a Length2 whose first unit is zero.
+    ZeroUnit,
+    /// A name that runs up to such a Length2.
+    ZeroUnitName,
+    /// A string that runs up to such a Length2.
+    ZeroUnitString,
+    /// The program lists one record that fills its input.
+    FullProgramRecord,
 }
 
-pub const CASES: [Case; 19] = [
+pub const CASES: [Case; 32] = [
     Case::FarRecord,
     Case::FarRecordBack,
     Case::FarString,
@@ -98,6 +125,19 @@ pub const CASES: [Case; 19] = [
     Case::LargeAppendExact,
     Case::LargeAppendRefused,
     Case::WrappedNumber,
+    Case::LongestRecord,
+    Case::LongestRecordBack,
+    Case::TooLongRecord,
+    Case::TooLongRecordBack,
+    Case::LongestWrite,
+    Case::TooLongWrite,
+    Case::LongestAppend,
+    Case::LongestRead,
+    Case::LongestNeeded,
+    Case::ZeroUnit,
+    Case::ZeroUnitName,
+    Case::ZeroUnitString,
+    Case::FullProgramRecord,
 ];
 
 /// Where far and long begin: what 16 bits count, and the listing program's limit.
@@ -384,6 +424,12 @@ impl Check {
         }
         self.count_buffer(s);
         self.count_case(Case::FarRecord, number == 0 && at > FAR);
+        let length = proved.as_ref().map_or(0, |seen| seen.length);
+        self.count_case(Case::LongestRecord, length == MAX_LENGTH);
+        self.count_case(Case::ZeroUnit, number == 0 && length.is_multiple_of(FAR));
+        let too_long = number == 2 && s.len() - at >= TOO_LONG;
+        let too_long = too_long && get(s, at, 4) == TOO_LONG as u32;
+        self.count_case(Case::TooLongRecord, too_long);
         self.count(Call::Step, number);
         proved.ok().map(|seen| u32::from(seen.fields.num_strings))
     }
@@ -397,7 +443,32 @@ impl Check {
         }
         self.count_buffer(s);
         self.count_case(Case::FarRecordBack, proved.is_ok() && end > FAR);
+        let length = proved.as_ref().map_or(0, |seen| seen.length);
+        self.count_case(Case::LongestRecordBack, length == MAX_LENGTH);
+        let too_long = matches!(proved, Err((2, _))) && end >= TOO_LONG;
+        let too_long = too_long && get(s, end - 4, 4) == TOO_LONG as u32;
+        self.count_case(Case::TooLongRecordBack, too_long);
         self.count(Call::StepBack, proved.err().map_or(0, |r| r.0));
+    }
+
+    /// A record of a log whose text runs up to Length2: refused so from both
+    /// ends, by steps and walks.
+    pub fn unended(&mut self, log: &[u8], record: Range<usize>, refusal: u32) {
+        self.at(log, record.start);
+        self.step_back(log, record.end);
+        self.walks(log);
+        let steps = (
+            plain::judge(log, record.start),
+            plain::judge_back(log, record.end),
+        );
+        let walks = [plain::walk(log), plain::walk_back(log)].map(|w| (w.refusal, w.at));
+        let expected = [record.start, record.end].map(|at| (refusal, at));
+        if steps != (Err(refusal), Err(refusal)) || walks != expected {
+            self.differ("a text without an end", &[log], &expected, &(steps, walks));
+        }
+        let zero_unit = record.len().is_multiple_of(FAR);
+        self.count_case(Case::ZeroUnitName, zero_unit && refusal == 9);
+        self.count_case(Case::ZeroUnitString, zero_unit && refusal == 11);
     }
 
     /// String `k` of the record at a place.
@@ -708,6 +779,8 @@ impl Check {
         self.count_case(Case::FullProgram, full && number == 0);
         self.count_case(Case::FullProgramRefused, full && number != 0);
         self.count_case(Case::EmptyProgram, s.is_empty());
+        let one = s.len() == FAR && plain::judge(s, 0) == Ok(FAR);
+        self.count_case(Case::FullProgramRecord, one);
         self.count(Call::Program, number);
     }
 
@@ -733,6 +806,9 @@ impl Check {
             self.step_back(&out[0], length);
         }
         self.same_outputs(&call, &inputs, out, plain.unwrap_or(0));
+        self.count_case(Case::LongestWrite, plain == Ok(MAX_LENGTH));
+        let too_long = plain == Err(2) && event.length() == TOO_LONG;
+        self.count_case(Case::TooLongWrite, too_long);
         self.count(Call::Write, plain.err().unwrap_or(0));
     }
 
@@ -766,6 +842,7 @@ impl Check {
         let wrapped = good && used > 0 && log.get(used + 8..used + 12) == Some(&[0; 4]);
         self.count_case(Case::WrappedNumber, wrapped);
         self.count_case(Case::FarAppend, good && used > FAR);
+        self.count_case(Case::LongestAppend, good && event.length() == MAX_LENGTH);
         let (room, length) = (log.len().saturating_sub(used), event.length());
         if length >= LARGE {
             self.count_case(Case::LargeAppend, good && room > length);
@@ -814,6 +891,9 @@ impl Check {
             plain.read >= LONG_READ && flags & 8 != 0,
         );
         self.count_case(Case::LargestRead, plain.read == LARGEST_READ);
+        let longest = size == MAX_LENGTH && plain.read == MAX_LENGTH;
+        self.count_case(Case::LongestRead, longest);
+        self.count_case(Case::LongestNeeded, plain.needed == MAX_LENGTH);
         let kind = FLAGS.iter().position(|f| *f == flags).unwrap_or(4);
         match STATUSES.iter().position(|s| *s == plain.status) {
             Some(status) => self.tally.statuses[kind][status] += 1,

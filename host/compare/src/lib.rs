@@ -15,7 +15,7 @@ use random::Random;
 pub type Family = (&'static str, fn(&mut Random, &mut Check));
 
 /// All kinds of inputs, those with short ones first.
-pub const FAMILIES: [Family; 11] = [
+pub const FAMILIES: [Family; 12] = [
     ("fields", fields),
     ("bytes", bytes),
     ("cuts", cuts),
@@ -27,6 +27,7 @@ pub const FAMILIES: [Family; 11] = [
     ("limits", limits),
     ("listings", listings),
     ("runs", runs),
+    ("lengths", lengths),
 ];
 
 /// One round of a family.
@@ -201,28 +202,85 @@ fn noise(rng: &mut Random, check: &mut Check) {
     }
 }
 
-/// The longest records, and small changes of them.
+/// Large records, and small changes of them.
 fn limits(rng: &mut Random, check: &mut Check) {
     for _ in 0..4 {
         let mut made = Made::good(rng, Size::Large);
         check.buffer(&made.encode(Some(rng)));
         let out = made.length() - rng.below(2);
         check.write(&made, out);
-        if rng.once_in(3) {
+        if rng.once_in(8) {
             // One step too long, for the reader and the writer.
-            made.fit(rng, make::MAX_LENGTH + 4);
+            made.fit(rng, make::TOO_LONG);
             check.buffer(&made.encode(Some(rng)));
-            check.write(&made, make::MAX_LENGTH + 4);
+            check.write(&made, make::TOO_LONG);
         }
         let good = make::record(rng, Size::Large);
         check.buffer(&good);
-        if rng.once_in(50) {
+        if rng.once_in(200) {
             every_field(rng, check, &good);
         }
-        for _ in 0..12 {
+        for _ in 0..8 {
             changed_large(rng, check, &good);
         }
     }
+}
+
+/// A record whose Length is an edge, or one step too long, by itself and between
+/// others; and a text that runs up to such a Length2, or to any.
+fn lengths(rng: &mut Random, check: &mut Check) {
+    let length = rng.pick(&[&make::EDGES[..], &[make::TOO_LONG]].concat());
+    let mut made = Made::good(rng, Size::Small);
+    if length < 65_000 {
+        made = Made::default();
+    }
+    if length < 65_000 || length > 130_000 && rng.once_in(2) {
+        made.data = rng.bytes(make::MAX_DATA);
+    }
+    made.fit(rng, length);
+    check.write(&made, length);
+    between(rng, check, &made);
+
+    let any = 4 * rng.range(100, 2000);
+    for length in [rng.pick(&[65_536, 131_072, 196_608, any]), any] {
+        let (mut record, refusal) = make::unended(rng, length);
+        let (before, _) = make::log(rng, 2, Size::Small, false);
+        let (after, _) = make::log(rng, 2, Size::Small, false);
+        let log = [&before[..], &record, &after].concat();
+        let start = before.len();
+        check.unended(&log, start..start + length, refusal);
+        // Its last unit zero: the text ends, and what comes after it decides.
+        record[length - 6..length - 4].fill(0);
+        check.at(&record, 0);
+        check.step_back(&record, length);
+    }
+}
+
+/// An event's record by itself and in a log between others: judged, read and
+/// appended.
+fn between(rng: &mut Random, check: &mut Check, made: &Made) {
+    let record = made.encode(Some(rng));
+    check.buffer(&record);
+    let (before, _) = make::log(rng, 2, Size::Small, false);
+    let (after, _) = make::log(rng, 2, Size::Small, false);
+    let log = [&before[..], &record, &after].concat();
+    let (start, end) = (before.len(), before.len() + record.len());
+    check.at(&log, start);
+    check.at(&log, end);
+    check.walks(&log);
+    for size in [record.len(), record.len() - 1, plain::MAX_READ] {
+        for (at, flags) in [(start, 5), (end, 9)] {
+            let request = Request {
+                flags,
+                number: 0,
+                size,
+                out: size,
+            };
+            check.read(Handles::boundary(at), &log, request);
+        }
+    }
+    let mut log = [before, rng.bytes(record.len())].concat();
+    check.append(&mut log, start, made);
 }
 
 fn changed_large(rng: &mut Random, check: &mut Check, good: &[u8]) {
@@ -429,7 +487,15 @@ fn listings(rng: &mut Random, check: &mut Check) {
         1 => FULL_BATCH + 4 * rng.range(1, 500),
         _ => FULL_BATCH - 4 * rng.below(130),
     };
-    let mut batch = make::records_of(rng, length);
+    let mut batch = match rng.once_in(8) {
+        true => {
+            // One record that fills the program's input.
+            let mut made = Made::good(rng, Size::Small);
+            made.fit(rng, FULL_BATCH);
+            made.encode(Some(rng))
+        }
+        false => make::records_of(rng, length),
+    };
     listed(rng, check, &batch);
     damage_record(rng, &mut batch);
     listed(rng, check, &batch);
@@ -521,7 +587,7 @@ fn any_size(rng: &mut Random, log: &[u8], span: usize) -> usize {
         2 => span + 1,
         3 => rng.below(log.len() + 1),
         4 => log.len(),
-        5 => rng.pick(&[63, 64, 65, 100, 65_532]),
+        5 => rng.pick(&[63, 64, 65, 100, 65_532, make::MAX_LENGTH]),
         6 if rng.once_in(8) => rng.pick(&[524_286, 524_287, 524_288, 600_000]),
         7 if rng.once_in(4) => rng.pick(&[usize::MAX, 1 << 32, 1 << 31]),
         8 => rng.range(64, 400),

@@ -3,9 +3,26 @@
 use crate::random::Random;
 
 /// The longest record.
-pub const MAX_LENGTH: usize = 65_532;
+pub const MAX_LENGTH: usize = 262_140;
+/// The shortest Length that is too long.
+pub const TOO_LONG: usize = MAX_LENGTH + 4;
 /// The most data.
 pub const MAX_DATA: usize = 61_440;
+
+/// Lengths at which something changes: the most data and nothing else, what 16
+/// bits count, a Length2 whose first unit is zero, the limit.
+pub const EDGES: [usize; 10] = [
+    64 + MAX_DATA,
+    68 + MAX_DATA,
+    65_528,
+    65_532,
+    65_536,
+    131_072,
+    196_608,
+    MAX_LENGTH - 8,
+    MAX_LENGTH - 4,
+    MAX_LENGTH,
+];
 
 /// How long an event's parts are.
 #[derive(Clone, Copy, Debug, PartialEq, Eq)]
@@ -176,15 +193,13 @@ impl Made {
         self.fields.num_strings += 1;
     }
 
-    /// One part takes most of the room; often the Length is a limit exactly.
+    /// One part takes most of the room; often the Length is an edge exactly.
+    /// Shorter ones are made more often, as they take less time to judge.
     fn fill_large(&mut self, rng: &mut Random) {
         self.fill(rng, 30, 3, 10, 50);
         let room = MAX_LENGTH - 1000;
-        let n = match rng.below(3) {
-            0 => room,
-            1 => rng.range(room / 2, room),
-            _ => rng.range(2000, room),
-        };
+        let most = rng.pick(&[room / 4, room / 4, room / 2, room]);
+        let n = rng.range(2000, most);
         match rng.below(5) {
             0 => self.source = text(rng, n / 2),
             1 => self.computer = text(rng, n / 2),
@@ -203,20 +218,25 @@ impl Made {
                 self.data = rng.bytes(n);
             }
         }
-        if rng.once_in(2) {
-            let length = rng.pick(&[MAX_LENGTH, MAX_LENGTH, MAX_LENGTH - 4]);
+        if rng.once_in(3) {
+            let length = rng.pick(&EDGES);
             self.fit(rng, length);
         }
     }
 
-    /// Lengthens a name so that the Length is this one, where it is shorter.
+    /// Lengthens a name or the last string so that the Length is this one, where
+    /// it is shorter.
     pub fn fit(&mut self, rng: &mut Random, length: usize) {
         let more = length.saturating_sub(self.length());
         let longer = text(rng, more / 2);
-        if rng.once_in(2) {
-            self.source.extend(longer);
-        } else {
-            self.computer.extend(longer);
+        match rng.below(3) {
+            0 => self.source.extend(longer),
+            2 if self.strings.ends_with(&[0, 0]) => {
+                self.strings.truncate(self.strings.len() - 2);
+                self.strings.extend(longer);
+                self.strings.extend([0, 0]);
+            }
+            _ => self.computer.extend(longer),
         }
     }
 
@@ -253,11 +273,17 @@ impl Made {
                 self.data.resize(len, 7);
             }
             13 => {
-                let length = rng.pick(&[MAX_LENGTH - 4, MAX_LENGTH, MAX_LENGTH + 4]);
+                let length = match rng.below(12) {
+                    0 => rng.pick(&[MAX_LENGTH - 4, MAX_LENGTH, TOO_LONG]),
+                    1 => rng.pick(&EDGES),
+                    _ => 4 * rng.range(16, 2000),
+                };
                 self.fit(rng, length);
             }
             14 => {
-                let units = rng.range(32_700, 33_000);
+                // About what 16 bits count, in bytes; seldom about the limit.
+                let most = rng.pick(&[33_000, 33_000, 33_000, 33_000, 33_000, 131_200]);
+                let units = rng.range(most - 300, most);
                 self.computer = text(rng, units);
             }
             _ => f.record_number = u32::MAX,
@@ -294,10 +320,13 @@ impl Made {
         }
     }
 
+    fn sid_at(&self) -> usize {
+        aligned(56 + self.source.len() + 2 + self.computer.len() + 2)
+    }
+
     /// The laid-out size.
     pub fn length(&self) -> usize {
-        let sid_at = aligned(56 + self.source.len() + 2 + self.computer.len() + 2);
-        aligned(sid_at + self.sid.len() + self.strings.len() + self.data.len()) + 4
+        aligned(self.sid_at() + self.sid.len() + self.strings.len() + self.data.len()) + 4
     }
 
     /// The record, laid out as Rule 2.2 has it; the ignored bytes are zero, or
@@ -307,7 +336,7 @@ impl Made {
             Some(rng) => rng.bytes(len),
             None => vec![0; len],
         };
-        let sid_at = aligned(56 + self.source.len() + 2 + self.computer.len() + 2);
+        let sid_at = self.sid_at();
         let strings_at = sid_at + self.sid.len();
         let data_at = strings_at + self.strings.len();
         let length = (self.length() as u32).to_le_bytes();
@@ -392,6 +421,26 @@ pub fn record(rng: &mut Random, size: Size) -> Vec<u8> {
     Made::good(rng, size).encode(Some(rng))
 }
 
+/// A record of this Length in which a text runs up to Length2, and all else is
+/// right; and its refusal.
+pub fn unended(rng: &mut Random, length: usize) -> (Vec<u8>, u32) {
+    let mut made = Made::good(rng, Size::Small);
+    made.data.clear();
+    made.push_string(rng, 0);
+    let strings_at = made.sid_at() + made.sid.len();
+    let (from, refusal) = rng.pick(&[
+        (56, 9),
+        (56 + made.source.len() + 2, 9),
+        (strings_at + made.strings.len() - 2, 11),
+    ]);
+    let mut bytes = made.encode(Some(rng));
+    bytes.truncate(from);
+    bytes.extend(text(rng, (length - 4 - from) / 2));
+    bytes.extend((length as u32).to_le_bytes());
+    put(&mut bytes, 0, 4, length as u32);
+    (bytes, refusal)
+}
+
 /// A good record whose data is records and pieces of records.
 pub fn nested(rng: &mut Random) -> Vec<u8> {
     let mut outer = Made::good(rng, Size::Small);
@@ -410,11 +459,12 @@ pub fn nested(rng: &mut Random) -> Vec<u8> {
 }
 
 /// Small numbers, and those next to a limit.
-const NUMBERS: [u32; 56] = [
+const NUMBERS: [u32; 67] = [
     0, 1, 2, 3, 4, 5, 7, 8, 9, 11, 12, 15, 16, 17, 20, 24, 31, 32, 33, 56, 57, 58, 60, 61, 62, 63,
     64, 65, 66, 68, 69, 72, 76, 127, 128, 255, 256, 257, 0x4000, 0x7FFF, 0x8000, 0x8001, 0xC000,
     0xFFFE, 0xFFFF, 61_436, 61_439, 61_440, 61_441, 61_444, 65_528, 65_531, 65_532, 65_533, 65_536,
-    65_540,
+    65_540, 131_068, 131_072, 196_604, 196_608, 262_136, 262_139, 262_140, 262_141, 262_143,
+    262_144, 262_148,
 ];
 
 /// Signatures, and numbers with which a 32-bit sum wraps.

@@ -5,7 +5,8 @@ mod common;
 use common::*;
 use plain::*;
 
-/// An event whose record is 4,088 + 61,440 + 4 bytes long with 2,014 units.
+/// An event whose record is 200,696 + 61,440 + 4 bytes long with 100,318 units
+/// and all the data that there can be.
 fn long<'a>(name: &'a [u8], data: &'a [u8]) -> Event<'a> {
     Event {
         source_name: name,
@@ -16,31 +17,196 @@ fn long<'a>(name: &'a [u8], data: &'a [u8]) -> Event<'a> {
 
 #[test]
 fn longest_record() {
-    let units = [b'a', 0].repeat(2_016);
+    let units = [b'a', 0].repeat(100_320);
     let data = vec![7; 61_440];
 
-    let record = written(&long(&units[..4_028], &data));
-    assert_eq!(record.len(), 65_532);
-    assert_eq!(judge(&record, 0), Ok(65_532));
-    assert_eq!(judge_back(&record, 65_532), Ok(65_532));
+    let record = written(&long(&units[..200_636], &data));
+    assert_eq!(record.len(), 262_140);
+    assert_eq!(judge(&record, 0), Ok(262_140));
+    assert_eq!(judge_back(&record, 262_140), Ok(262_140));
+    assert_eq!(slow(&record, 0), Ok(262_140));
+    assert_eq!(slow_back(&record, 262_140), Ok(262_140));
     assert_eq!(event_data(&record, 0), data);
-    assert_eq!(source_name(&record, 0), &units[..4_028]);
+    assert_eq!(source_name(&record, 0), &units[..200_636]);
 
-    let mut out = vec![0xAA; 70_000];
-    for n in [4_030, 4_032] {
+    let mut out = vec![0xAA; 270_000];
+    for n in [200_638, 200_640] {
         assert_eq!(write(&long(&units[..n], &data), &mut out), Err(2));
     }
     assert!(out.iter().all(|b| *b == 0xAA));
 
-    // The same record with four more bytes, 65,536 in all.
+    // The same record with four more bytes, 262,144 in all.
     let mut longer = record.clone();
-    longer.truncate(65_528);
+    longer.truncate(262_136);
     longer.extend([0; 4]);
-    longer.extend(65_536u32.to_le_bytes());
-    let longer = with32(&longer, 0, 65_536);
-    assert_eq!(longer.len(), 65_536);
+    longer.extend(262_144u32.to_le_bytes());
+    let longer = with32(&longer, 0, 262_144);
+    assert_eq!(longer.len(), 262_144);
     assert_eq!(judge(&longer, 0), Err(2));
-    assert_eq!(judge_back(&longer, 65_536), Err(2));
+    assert_eq!(judge_back(&longer, 262_144), Err(2));
+}
+
+/// Every part is past what 16 bits count, but for the names' start.
+#[test]
+fn longest_record_of_every_part() {
+    let source = [b's', 0].repeat(40_000);
+    let computer = [b'c', 0].repeat(10_001);
+    let sid = [&[1, 15][..], &[5; 66]].concat();
+    let strings: Vec<Vec<u8>> = (0..256u16)
+        .map(|k| {
+            (k + 1)
+                .to_le_bytes()
+                .repeat(if k < 255 { 195 } else { 300 })
+        })
+        .collect();
+    let run: Vec<u8> = strings
+        .iter()
+        .flat_map(|s| s.iter().copied().chain([0, 0]))
+        .collect();
+    let data = vec![0; 61_440];
+    let event = Event {
+        fields: Fields {
+            record_number: 7,
+            num_strings: 256,
+            reserved_flags: XML_FLAG,
+            ..Fields::default()
+        },
+        source_name: &source,
+        computer_name: &computer,
+        sid: &sid,
+        strings: &run,
+        event_data: &data,
+    };
+    let record = written(&event);
+    assert_eq!(record.len(), 262_140);
+    let found = step(&record, 0).unwrap();
+    assert_eq!(step_back(&record, 262_140), Ok(found));
+    assert_eq!((found.start, found.length), (0, 262_140));
+    assert_eq!((found.source_name, found.source_name_at), (&source[..], 56));
+    let computer_at = 56 + 80_000 + 2;
+    assert_eq!(
+        (found.computer_name, found.computer_name_at),
+        (&computer[..], computer_at)
+    );
+    assert_eq!((found.sid, found.sid_at), (&sid[..], 100_064));
+    assert_eq!((found.strings, found.strings_at), (&run[..], 100_132));
+    assert_eq!(
+        (found.event_data, found.event_data_at),
+        (&data[..], 200_694)
+    );
+    let mut place = found.strings_at;
+    for (k, expected) in strings.iter().enumerate() {
+        assert_eq!(string(&record, 0, k as u32), expected);
+        let next = next_string(&record, (100_132, run.len()), place);
+        assert_eq!(
+            (next.refusal, next.at, next.len),
+            (0, place, expected.len())
+        );
+        place = next.next;
+    }
+    assert_eq!(place, 200_694);
+    assert_eq!(string_refusal(&record, 0, 256), 17);
+
+    // Behind S, as the log's next record, and served from both ends.
+    let mut log = vec![0xAA; 64 + 262_140];
+    log[..64].copy_from_slice(&S);
+    assert_eq!(append(&mut log[..64 + 262_139], 64, &event), Err(15));
+    assert!(log[64..].iter().all(|b| *b == 0xAA));
+    assert_eq!(append(&mut log, 64, &event), Ok(64 + 262_140));
+    assert_eq!(log[64..], with32(&record, 8, 8));
+    let walked = |at| Walked {
+        count: 2,
+        refusal: 0,
+        at,
+    };
+    assert_eq!(walk(&log), walked(64 + 262_140));
+    assert_eq!(walk_back(&log), walked(0));
+    let mut out = vec![0xAA; 262_140];
+    for (flags, at) in [(5, 64), (9, 64 + 262_140)] {
+        let handle = Handle {
+            place: Place::Boundary(at),
+        };
+        let answer = handle.read(&log, flags, 0, 262_139, &mut out);
+        assert_eq!((answer.status, answer.needed), (0xC000_0023, 262_140));
+        let answer = handle.read(&log, flags, 0, 262_140, &mut out);
+        assert_eq!((answer.status, answer.read), (0, 262_140));
+        assert_eq!(out, log[64..]);
+        out.fill(0xAA);
+    }
+
+    // One unit more in a name or a string fills a gap, two are too long.
+    let source = [b's', 0].repeat(40_002);
+    let run = [&[1; 4][..], &run].concat();
+    let mut out = vec![0; 270_000];
+    for (more, answer) in [(2, Ok(262_140)), (4, Err(2))] {
+        let name = Event {
+            source_name: &source[..80_000 + more],
+            ..event
+        };
+        let string = Event {
+            strings: &run[4 - more..],
+            ..event
+        };
+        assert_eq!(write(&name, &mut out), answer);
+        assert_eq!(write(&string, &mut out), answer);
+    }
+}
+
+/// A record of this Length that keeps every rule but for its texts: `body`
+/// stands from the names on, and then units that are not zero up to Length2.
+fn running_on(length: usize, body: &[u8], strings: u16) -> Vec<u8> {
+    let mut record = S.to_vec();
+    record.truncate(56);
+    record.extend(body);
+    record.resize(length - 4, 1);
+    record.extend((length as u32).to_le_bytes());
+    let record = with16(&with32(&record, 0, length as u32), 26, strings);
+    with32(&record, 36, 56 + body.len() as u32)
+}
+
+/// The first unit of Length2 is zero at these Lengths, and ends no text.
+#[test]
+fn texts_that_run_up_to_length2() {
+    for length in [65_536, 131_072, 196_608] {
+        let refused = |body: &[u8], strings: u16| {
+            let record = running_on(length, body, strings);
+            assert_eq!(record[length - 4..length - 2], [0, 0]);
+            assert_eq!(record.len(), length);
+            let number = judge(&record, 0).unwrap_err();
+            assert_eq!(slow(&record, 0), Err(number));
+            assert_eq!(judge_back(&record, length), Err(number));
+            assert_eq!(slow_back(&record, length), Err(number));
+            // In a log too, whose next bytes look like more of the record.
+            let log = [&S[..], &record, &S].concat();
+            let stopped = |at| Walked {
+                count: 1,
+                refusal: number,
+                at,
+            };
+            assert_eq!(walk(&log), stopped(64));
+            assert_eq!(walk_back(&log), stopped(64 + length));
+            number
+        };
+        // Neither name ends; only the source name does; the names do.
+        assert_eq!(refused(&[], 0), 9);
+        assert_eq!(refused(&[0, 0], 0), 9);
+        assert_eq!(refused(&[0; 4], 1), 11);
+        // The first of two strings ends.
+        let mut record = running_on(length, &[0; 4], 2);
+        record[70..72].fill(0);
+        assert_eq!(judge(&record, 0), Err(11));
+        assert_eq!(judge_back(&record, length), Err(11));
+
+        // With a zero unit right before Length2 each of them is good.
+        for (body, strings, zeros) in [(&[][..], 0, 4), (&[0; 2][..], 0, 2), (&[0; 4][..], 1, 2)] {
+            let mut record = running_on(length, body, strings);
+            record[length - 4 - zeros..length - 4].fill(0);
+            assert_eq!(judge(&record, 0), Ok(length));
+            assert_eq!(judge_back(&record, length), Ok(length));
+            assert_eq!(slow(&record, 0), Ok(length));
+            assert_eq!(slow_back(&record, length), Ok(length));
+        }
+    }
 }
 
 #[test]
@@ -221,7 +387,7 @@ fn reading_back_refuses_in_order() {
 #[test]
 fn writing_refuses_in_order() {
     let zero_inside = [b'a', 0, 0, 0, b'b', 0];
-    let big = [b'a', 0].repeat(40_000);
+    let big = [b'a', 0].repeat(110_000);
     let data = vec![0; 61_441];
     let mut event = Event {
         fields: Fields {

@@ -279,4 +279,18 @@ fn listings() {
     assert!(listing(&full).starts_with("records 1024\n0 64 7\n64 64 7\n"));
     assert!(listing(&full).ends_with("\n65472 64 7\n"));
     assert_eq!(listing(&[&full[..], &S].concat()), "refused 16 at 0\n");
+    // So does one record, the longest that the program lists.
+    let one = written(&Event {
+        source_name: &[b'a', 0].repeat(32_736),
+        ..s_event()
+    });
+    assert_eq!(listing(&one), "records 1\n0 65536 7\n");
+    // Length is still judged up to its own limit: a longer one is cut short.
+    for (length, text) in [
+        (65_540, "refused 3 at 0\n"),
+        (262_140, "refused 3 at 0\n"),
+        (262_144, "refused 2 at 0\n"),
+    ] {
+        assert_eq!(listing(&with32(&one, 0, length)), text);
+    }
 }

@@ -239,20 +239,39 @@ fn series_of_reads() {
     }
 }
 
+/// N reads that ask for the largest Length copy N records, however long they are.
 #[test]
 fn as_many_reads_as_records_reach_the_end() {
     let mut rng = Rng(11);
-    let records: Vec<_> = (0..300)
-        .map(|_| written(&Owned::random(&mut rng).event()))
-        .collect();
+    let name = [b'a', 0].repeat(131_038);
+    let mut records = Vec::new();
+    for i in 0..30 {
+        let mut owned = Owned::random(&mut rng);
+        if i % 10 > 7 {
+            owned.source_name = name[..2 * (131_038 - rng.below(2) * 65_536)].to_vec();
+            owned.computer_name.clear();
+            owned.sid.clear();
+            owned.fields.num_strings = 0;
+            owned.fields.reserved_flags = 0;
+            owned.run.clear();
+            owned.event_data.clear();
+        }
+        records.push(written(&owned.event()));
+    }
+    assert!(records.iter().any(|r| r.len() == 262_140));
     let log = records.concat();
-    let mut out = vec![0; 65_532];
+    let mut out = vec![0; 262_140];
     for flags in [5, 9] {
         let mut handle = Handle::fresh();
-        for _ in 0..300 {
-            handle = handle.read(&log, flags, 0, 65_532, &mut out).handle;
+        let mut copied = 0;
+        for _ in 0..records.len() {
+            let answer = handle.read(&log, flags, 0, 262_140, &mut out);
+            assert!(answer.status == 0 || copied == log.len());
+            copied += answer.read;
+            handle = answer.handle;
         }
-        let answer = handle.read(&log, flags, 0, 65_532, &mut out);
+        assert_eq!(copied, log.len());
+        let answer = handle.read(&log, flags, 0, 262_140, &mut out);
         assert_eq!(answer.status, 0xC000_0011);
     }
 }

@@ -4,10 +4,11 @@
 use std::hint::black_box;
 use std::time::{Duration, Instant};
 
-use compare::make::{text, Made};
+use compare::make::{text, Made, MAX_DATA};
 use compare::random::Random;
 
 const BATCH: usize = 16 << 20;
+/// What a read asks for, where a record fits.
 const READ: usize = 64 << 10;
 const ROUNDS: usize = 40;
 /// Names alone are short work: many walks of one record.
@@ -27,10 +28,10 @@ fn batch(rng: &mut Random, length: usize) -> Vec<u8> {
             made.source = text(rng, 12);
             made.computer = text(rng, 10);
             made.sid = [&[1, 5][..], &rng.bytes(26)].concat();
-            for _ in 0..6 {
-                made.strings.extend(text(rng, 20));
-                made.strings.extend([0, 0]);
-                made.fields.num_strings += 1;
+            // What the data cannot take is in the strings.
+            match length > MAX_DATA {
+                true => push_strings(&mut made, rng, STRINGS, 391),
+                false => push_strings(&mut made, rng, 6, 20),
             }
         }
         let more = length.saturating_sub(made.length()) + rng.below(16);
@@ -41,6 +42,15 @@ fn batch(rng: &mut Random, length: usize) -> Vec<u8> {
         out.extend(made.encode(None));
     }
     out
+}
+
+/// So many strings, all of this length.
+fn push_strings(made: &mut Made, rng: &mut Random, count: usize, units: usize) {
+    for _ in 0..count {
+        made.strings.extend(text(rng, units));
+        made.strings.extend([0, 0]);
+        made.fields.num_strings += 1;
+    }
 }
 
 /// One record whose source name is this long.
@@ -55,11 +65,7 @@ fn long_name(rng: &mut Random, units: usize) -> Vec<u8> {
 /// One record with as many strings as there can be, all of this length.
 fn many_strings(rng: &mut Random, units: usize) -> Vec<u8> {
     let mut made = Made::default();
-    for _ in 0..STRINGS {
-        made.strings.extend(text(rng, units));
-        made.strings.extend([0, 0]);
-        made.fields.num_strings += 1;
-    }
+    push_strings(&mut made, rng, STRINGS, units);
     made.encode(None)
 }
 
@@ -158,7 +164,8 @@ fn rows(rng: &mut Random, name: &str, length: usize) {
         &mut || counted(eventlog::walk_back(black_box(log))),
         &mut || plain::walk_back(black_box(log)).count,
     );
-    let (mut out, mut other) = (vec![0; READ], vec![0; READ]);
+    let size = if length < READ { READ } else { plain::MAX_READ };
+    let (mut out, mut other) = (vec![0; size], vec![0; size]);
     for (direction, flags) in [("forwards", 5), ("backwards", 9)] {
         row(
             &format!("read {direction}, records of {name}"),
@@ -233,15 +240,21 @@ fn string_rows(rng: &mut Random) {
 fn main() {
     let mut rng = Random::new(1);
     println!(
-        "Minima of {ROUNDS} rounds, both versions in turn. A batch has 16 MiB; reads ask 64 KiB."
+        "Minima of {ROUNDS} rounds, both versions in turn. A batch has 16 MiB; reads ask 64 KiB,"
     );
+    println!("those of records of 256 KiB all that a read may, 524,287 bytes.");
     println!("The output is not cleared between reads.");
     println!("ns are for each record, the ratio is proved / plain.");
     println!(
         "{:36} {:>9} {:>9} {:>8} {:>8} {:>6}",
         "", "proved ms", "plain ms", "ns", "ns", "ratio"
     );
-    for (name, length) in [("100 bytes", 100), ("1 KiB", 1024), ("60 KiB", 60 << 10)] {
+    for (name, length) in [
+        ("100 bytes", 100),
+        ("1 KiB", 1024),
+        ("60 KiB", 60 << 10),
+        ("256 KiB", 262_100),
+    ] {
         rows(&mut rng, name, length);
     }
     name_row(&mut rng);
