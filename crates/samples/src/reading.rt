@@ -130,9 +130,11 @@ fn lengths() {
     changed(b"T with Length 102", 0, b"\x66");
     changed(b"T with Length 108", 0, b"\x6c");
     changed(b"T with Length 65536", 0, b"\0\0\x01");
+    changed(b"T with Length 262144", 0, b"\0\0\x04");
     changed(b"T with another signature", 4, b"M");
     changed(b"T with Length2 100", 100, b"\x64");
     changed(b"T with Length2 65536", 100, b"\0\0\x01");
+    changed(b"T with Length2 262144", 100, b"\0\0\x04");
     changed(b"T with Length2 108", 100, b"\x6c");
 }
 

@@ -268,18 +268,47 @@ fn long(what: &[u8], source: &[u8], event_data: &[u8], out: &mut [u8]) {
 
 fn lengths_refused() {
     let mut out = [0u8; 65540];
-    long(b"Length 65532", &[1u8; 4028], &[0u8; 61440], &mut out);
     long(b"Length 65536", &[1u8; 4032], &[0u8; 61440], &mut out);
     long(b"61441 bytes of data", b"", &[0u8; 61441], &mut out);
     long(
         b"61441 bytes of data, Length over the limit",
-        &[1u8; 4032],
+        &[1u8; 200640],
         &[0u8; 61441],
         &mut out,
     );
     long(b"68 bytes into 68", b"A\0B\0", b"", &mut [0u8; 68]);
     long(b"68 bytes into 67", b"A\0B\0", b"", &mut [0u8; 67]);
     long(b"64 bytes into none", b"", b"", &mut [0u8; 0]);
+}
+
+// The Length of a record with parts of these lengths, 0 where it would be too long.
+fn length_of(source: usize, computer: usize, sid: usize, strings: usize, bytes: usize) -> u64 {
+    event::places::measure(source, computer, sid, strings, bytes).length as u64
+}
+
+fn lengths() {
+    line(
+        b"Lengths 65536, 262140, 262144",
+        &[
+            length_of(4032, 0, 0, 0, 61440),
+            length_of(200636, 0, 0, 0, 61440),
+            length_of(200640, 0, 0, 0, 61440),
+        ],
+    );
+    line(
+        b"Lengths of parts as long as a number can be",
+        &[
+            length_of(0xffff_ffff_ffff_ffff, 0, 0, 0, 0),
+            length_of(0, 0xffff_ffff_ffff_fffe, 2, 0, 0),
+            length_of(
+                0,
+                0,
+                0xffff_ffff_ffff_fff0,
+                0xffff_ffff_ffff_fff0,
+                0xffff_ffff_ffff_fff0,
+            ),
+        ],
+    );
 }
 
 pub fn writing() {
@@ -289,4 +318,5 @@ pub fn writing() {
     names_refused();
     strings_refused();
     lengths_refused();
+    lengths();
 }

@@ -1,0 +1,161 @@
+// Large records: texts that run up to a Length2 whose first unit is zero; and a record of the largest Length,
+// written, read, appended, walked and served. They stand beside the program samples because `rt try` gives a
+// program ten million steps, and these take more.
+
+use format::Fields;
+use format::Step;
+use format::Unnumbered;
+use libc::STDOUT_FILENO;
+use serve::Handle;
+use stores::put;
+
+// What was asked, and two numbers that answer it.
+fn line(what: &[u8], a: u64, b: u64) {
+    io::write_all(STDOUT_FILENO, what);
+    io::write_all(STDOUT_FILENO, b": ");
+    io::print_decimal(STDOUT_FILENO, a);
+    io::write_all(STDOUT_FILENO, b" ");
+    io::print_decimal(STDOUT_FILENO, b);
+    io::write_all(STDOUT_FILENO, b"\n");
+}
+
+// The refusal of the record that ends at a place.
+fn refusal_back(s: &[u8], end: usize) -> u64 {
+    match record::step_back(s, end) {
+        Step::Found(_) => 0,
+        Step::Refused { number: k, at: _ } => k as u64,
+    }
+}
+
+// A record of ones, as long as the buffer, 65,536 bytes times k: its only text runs up to Length2.
+fn unended(what: &[u8], r: &mut [u8], k: u8, string: bool) {
+    let length = [0u8, 0, k, 0];
+    put(r, 0, &[0u8; 56]);
+    put(r, 0, &length);
+    put(r, 4, b"LfLe");
+    if string {
+        put(r, 26, b"\x01");
+        put(r, 36, b"\x3c");
+        put(r, 56, &[0u8; 4]);
+    }
+    let n = r.len();
+    if 4 <= n {
+        put(r, n - 4, &length);
+    }
+    line(what, record::refusal(r, 0) as u64, refusal_back(r, n));
+}
+
+fn unended_texts() {
+    unended(b"a name up to Length2 65536", &mut [1u8; 65536], 1, false);
+    unended(b"a name up to Length2 131072", &mut [1u8; 131072], 2, false);
+    unended(b"a name up to Length2 196608", &mut [1u8; 196608], 3, false);
+    unended(b"a string up to Length2 65536", &mut [1u8; 65536], 1, true);
+    unended(
+        b"a string up to Length2 131072",
+        &mut [1u8; 131072],
+        2,
+        true,
+    );
+    unended(
+        b"a string up to Length2 196608",
+        &mut [1u8; 196608],
+        3,
+        true,
+    );
+}
+
+// 255 empty strings and a long one, 100,000 bytes in all.
+fn strings() -> [u8; 100000] {
+    let mut s = [1u8; 100000];
+    put(&mut s, 0, &[0u8; 510]);
+    put(&mut s, 99998, &[0u8; 2]);
+    s
+}
+
+// With this source name, a computer name of 40,624 bytes, a SID, 256 strings and 61,440 bytes of data.
+fn write(what: &[u8], source: &[u8], strings: &[u8; 100000], log: &mut [u8]) {
+    let f = Fields {
+        record_number: 41,
+        time_generated: 0,
+        time_written: 0,
+        event_id: 0,
+        event_type: 2,
+        num_strings: 256,
+        event_category: 0,
+        reserved_flags: 0,
+    };
+    let w = writer::write(
+        f,
+        source,
+        &[2u8; 40624],
+        b"\x01\x01\0\0\0\0\0\0\0\0\0\0",
+        strings,
+        &[3u8; 61440],
+        log,
+    );
+    line(what, w.refusal as u64, w.length as u64);
+}
+
+fn append(what: &[u8], source: &[u8], strings: &[u8; 100000], log: &mut [u8]) {
+    let f = Unnumbered {
+        time_generated: 0,
+        time_written: 0,
+        event_id: 0,
+        event_type: 2,
+        num_strings: 256,
+        event_category: 0,
+        reserved_flags: 0,
+    };
+    let a = append::append(
+        log,
+        262140,
+        f,
+        source,
+        &[2u8; 40624],
+        b"\x01\x01\0\0\0\0\0\0\0\0\0\0",
+        strings,
+        &[3u8; 61440],
+    );
+    line(what, a.refusal as u64, a.used as u64);
+}
+
+// A read of one record, and the number of the record at the output's start.
+fn read(what: &[u8], log: &[u8], flags: u32, out: &mut [u8]) {
+    let a = Handle::fresh().read(log, flags, 0, 262140, out);
+    line(what, a.status as u64, a.read as u64);
+    line(
+        b"  its number, and its refusal",
+        numbers::u32_at(out, 8) as u64,
+        record::refusal(out, 0) as u64,
+    );
+}
+
+fn answers(log: &[u8]) {
+    line(
+        b"the first record, from its start and its end",
+        record::refusal(log, 0) as u64,
+        refusal_back(log, 262140),
+    );
+    line(
+        b"the second record, from its start and its end",
+        record::refusal(log, 262140) as u64,
+        refusal_back(log, 524280),
+    );
+    let w = walk::walk(log);
+    line(b"walk", w.count as u64, w.refusal as u64);
+    let b = walk::walk_back(log);
+    line(b"walk back", b.count as u64, b.refusal as u64);
+    read(b"forwards", log, 5, &mut [0u8; 262140]);
+    read(b"backwards", log, 9, &mut [0u8; 262140]);
+}
+
+fn main() {
+    let strings = strings();
+    let mut log = [0u8; 524280];
+    unended_texts();
+    write(b"write 262144 bytes", &[1u8; 60004], &strings, &mut log);
+    write(b"write 262140 bytes", &[1u8; 60000], &strings, &mut log);
+    append(b"append 262144 bytes", &[1u8; 60004], &strings, &mut log);
+    append(b"append 262140 bytes", &[1u8; 60000], &strings, &mut log);
+    answers(&log);
+}
