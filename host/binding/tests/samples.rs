@@ -431,8 +431,8 @@ fn longest_record_of_every_part() {
     let places = [places.sid, places.strings, places.event_data];
     assert_eq!(places, [100_064, 100_132, 200_694]);
     assert!(found.strings().map(Text::as_bytes).eq(strings.iter()));
-    for (k, string) in strings.iter().enumerate() {
-        assert_eq!(found.string(k as u32), Ok(Text::new(string)));
+    for (k, string) in (0..).zip(&strings) {
+        assert_eq!(found.string(k), Ok(Text::new(string)));
     }
     for k in [0, 128, 255] {
         assert_eq!(string(&record, 0, k), Ok(Text::new(&strings[k as usize])));
@@ -497,13 +497,14 @@ fn longest_record_of_every_part() {
 /// string; a zero unit right before it does.
 #[test]
 fn texts_that_run_up_to_length2() {
-    for length in [65_536, 131_072, 196_608] {
+    for said in [65_536_u32, 131_072, 196_608] {
+        let length = said as usize;
         let of = |zeros: usize, num_strings: u8, last: usize| {
             let mut record = [&S[..56], &vec![0; zeros]].concat();
             record.resize(length - 4 - last, 1);
             record.resize(length - 4, 0);
-            record.extend((length as u32).to_le_bytes());
-            record[..4].copy_from_slice(&(length as u32).to_le_bytes());
+            record.extend(said.to_le_bytes());
+            record[..4].copy_from_slice(&said.to_le_bytes());
             (record[26], record[36]) = (num_strings, 60);
             assert_eq!(record[length - 4..length - 2], [0, 0]);
             let front = refusal(&record, 0);
