@@ -27,40 +27,78 @@ fn refusal_back(s: &[u8], end: usize) -> u64 {
     }
 }
 
-// A record of ones, as long as the buffer, 65,536 bytes times k: its only text runs up to Length2.
-fn unended(what: &[u8], r: &mut [u8], k: u8, string: bool) {
-    let length = [0u8, 0, k, 0];
-    put(r, 0, &[0u8; 56]);
-    put(r, 0, &length);
-    put(r, 4, b"LfLe");
-    if string {
-        put(r, 26, b"\x01");
-        put(r, 36, b"\x3c");
-        put(r, 56, &[0u8; 4]);
-    }
-    let n = r.len();
-    if 4 <= n {
-        put(r, n - 4, &length);
-    }
-    line(what, record::refusal(r, 0) as u64, refusal_back(r, n));
+// The start of a record that has a source name, and of one that has a string after two empty names.
+fn name_head() -> [u8; 56] {
+    let mut h = [0u8; 56];
+    put(&mut h, 4, b"LfLe");
+    h
 }
 
-fn unended_texts() {
-    unended(b"a name up to Length2 65536", &mut [1u8; 65536], 1, false);
-    unended(b"a name up to Length2 131072", &mut [1u8; 131072], 2, false);
-    unended(b"a name up to Length2 196608", &mut [1u8; 196608], 3, false);
-    unended(b"a string up to Length2 65536", &mut [1u8; 65536], 1, true);
+fn string_head() -> [u8; 60] {
+    let mut h = [0u8; 60];
+    put(&mut h, 4, b"LfLe");
+    put(&mut h, 26, b"\x01");
+    put(&mut h, 36, b"\x3c");
+    h
+}
+
+fn refusals(what: &[u8], r: &[u8]) {
+    line(what, record::refusal(r, 0) as u64, refusal_back(r, r.len()));
+}
+
+// A record of ones, as long as the buffer, with this start: its only text runs up to Length2.
+fn unended(what: &[u8], r: &mut [u8], head: &[u8], length2_at: usize, length: &[u8]) {
+    put(r, 0, head);
+    put(r, 0, length);
+    put(r, length2_at, length);
+    refusals(what, r);
+}
+
+fn names(head: &[u8; 56]) {
+    unended(
+        b"a name up to Length2 65536",
+        &mut [1u8; 65536],
+        head,
+        65532,
+        b"\0\0\x01\0",
+    );
+    unended(
+        b"a name up to Length2 131072",
+        &mut [1u8; 131072],
+        head,
+        131068,
+        b"\0\0\x02\0",
+    );
+    unended(
+        b"a name up to Length2 196608",
+        &mut [1u8; 196608],
+        head,
+        196604,
+        b"\0\0\x03\0",
+    );
+}
+
+fn last_strings(head: &[u8; 60]) {
+    unended(
+        b"a string up to Length2 65536",
+        &mut [1u8; 65536],
+        head,
+        65532,
+        b"\0\0\x01\0",
+    );
     unended(
         b"a string up to Length2 131072",
         &mut [1u8; 131072],
-        2,
-        true,
+        head,
+        131068,
+        b"\0\0\x02\0",
     );
     unended(
         b"a string up to Length2 196608",
         &mut [1u8; 196608],
-        3,
-        true,
+        head,
+        196604,
+        b"\0\0\x03\0",
     );
 }
 
@@ -152,7 +190,8 @@ fn answers(log: &[u8]) {
 fn main() {
     let strings = strings();
     let mut log = [0u8; 524280];
-    unended_texts();
+    names(&name_head());
+    last_strings(&string_head());
     write(b"write 262144 bytes", &[1u8; 60004], &strings, &mut log);
     write(b"write 262140 bytes", &[1u8; 60000], &strings, &mut log);
     append(b"append 262144 bytes", &[1u8; 60004], &strings, &mut log);
