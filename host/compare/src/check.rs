@@ -797,12 +797,12 @@ impl Check {
             self.differ(&call, &inputs, &proved, &plain);
         }
         if let Ok(length) = plain {
-            let paper = event.encode(None);
-            if out[1].get(..length) != Some(&paper[..]) {
-                let other = "both differ from the paper's layout";
+            let laid_out = event.encode(None);
+            if out[1].get(..length) != Some(&laid_out[..]) {
+                let other = "both differ from the layout of the specification";
                 self.differ(&call, &inputs, &hex(&out[0]), &other);
             }
-            self.step(&paper, 0);
+            self.step(&laid_out, 0);
             self.step_back(&out[0], length);
         }
         self.same_outputs(&call, &inputs, out, plain.unwrap_or(0));
