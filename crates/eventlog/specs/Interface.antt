@@ -6,6 +6,7 @@ use Prim.Native.Nat.{ℕ}
 use lib.Dec.{eqb}
 use Rattle.format.specs.declared.Step.{Step}
 use Rattle.format.specs.declared.Step.the-variants.{Found, Refused}
+use Rattle.format.specs.Judge.{noRefusal}
 use Rattle.parts.specs.Shown.{emptyRecord}
 use Rattle.serve.specs.declared.Place.{Place}
 use Rattle.serve.specs.declared.Place.the-variants.{Fresh, Boundary}
@@ -17,7 +18,7 @@ use Rattle.eventlog.specs.declared.ReadAnswer.{ReadAnswer}
 
 -- Rule 4.22: a step's answer, asked for at a place
 abbrev pub stepped : Step → ℕ → Stepped
-stepped (Found a) p = record { refusal = 0; at = p; found = a }
+stepped (Found a) p = record { refusal = noRefusal; at = p; found = a }
 stepped (Refused k q) p = record { refusal = k; at = p; found = emptyRecord }
 
 -- Rule 8.25: a handle that was given: every kind but 0 is a boundary

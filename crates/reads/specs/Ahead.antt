@@ -6,6 +6,7 @@ use mathlib.Core.Logic.{_⊎_}
 use mathlib.Core.List.{List, [], _∷_, _++_}
 use Prim.Native.Nat.{ℕ, zero, _+_, _≤_, _<_}
 use lib.ListN.{length, take, drop}
+use Rattle.format.specs.declared.Refusal.{Refusal}
 use Rattle.format.specs.declared.Record.{Record}
 use Rattle.format.specs.declared.Step.the-variants.{Found, Refused}
 use Rattle.format.specs.declared.Direction.{Direction}
@@ -31,9 +32,9 @@ pub record Exactly (A B : Type 0) : Type 0 where
 -- Rule 8.7, row f: bytes are left, and the step refuses
 pub record NextRefuses (d : Direction) (w : ℕ) (s : List ℕ) (p : ℕ) : Type 0 where
   pub left : zero < length (ahead d s p)
-  pub number : ℕ
+  pub refusal : Refusal
   pub at : ℕ
-  pub refused : stepAt d w s p ≡ Refused number at
+  pub refused : stepAt d w s p ≡ Refused refusal at
 
 -- row g: it is longer than a size
 pub record NextLonger (d : Direction) (w : ℕ) (s : List ℕ) (p size : ℕ) : Type 0 where
@@ -102,8 +103,8 @@ pub record NoneHas (w : ℕ) (s : List ℕ) (number : ℕ) : Type 0 where
 -- and the read goes on from there, whatever comes behind that record in the log
 pub record SeeksIn (d : Direction) (w : ℕ) (s : List ℕ) (q : Read) (x : Served) : Type 0 where
   -- no record has the number, and the walk ends with the log or with a record that refuses
-  pub absent : Exactly (x .answer .status ≡ 0xC000000D) (NoneHas w s (q .number) × (trace Forwards w s .refusal ≡ 0))
-  pub corrupt : Exactly (x .answer .status ≡ 0xC000018E) (NoneHas w s (q .number) × (trace Forwards w s .refusal ≡ 0 → ⊥))
+  pub absent : Exactly (x .answer .status ≡ 0xC000000D) (NoneHas w s (q .number) × (trace Forwards w s .refusal .number ≡ 0))
+  pub corrupt : Exactly (x .answer .status ≡ 0xC000018E) (NoneHas w s (q .number) × (trace Forwards w s .refusal .number ≡ 0 → ⊥))
   -- the first record with the number is longer than the size, or fits
   pub small : Exactly (x .answer .status ≡ 0xC0000023) ((a : Record) × FirstHas w s (q .number) a × (q .size < a .length))
   pub success : Exactly (x .answer .status ≡ 0) ((a : Record) × FirstHas w s (q .number) a × (a .length ≤ q .size))
@@ -118,7 +119,7 @@ pub record Absent (w : ℕ) (s : List ℕ) (h : Handle) (q : Read) : Type 0 wher
   pub direction : Direction
   pub asks : Asks (seekFlags direction) s h q
   pub none : NoneHas w s (q .number)
-  pub walked : trace Forwards w s .refusal ≡ 0
+  pub walked : trace Forwards w s .refusal .number ≡ 0
 
 -- Rule 8.7, rows a, b and d: the two statuses of flags, size and handle, and when exactly
 pub record Judges (w : ℕ) (s : List ℕ) (h : Handle) (q : Read) (x : Served) : Type 0 where

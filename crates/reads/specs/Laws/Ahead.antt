@@ -8,6 +8,7 @@ use native.Mathlib.Omega.{arith}
 use lib.ListN.{length, drop, length-append}
 use lib.Dec.{leb}
 use borrow.Author.Tests.{ne-eqb, leb-true, leb-false}
+use Rattle.format.specs.declared.Refusal.{Refusal}
 use Rattle.format.specs.declared.Record.{Record}
 use Rattle.format.specs.declared.Step.{Step}
 use Rattle.format.specs.declared.Step.the-variants.{Found, Refused}
@@ -39,13 +40,13 @@ module _ (d : Direction) (w : ℕ) (s : List ℕ) (p : ℕ) where
   found-left : (a : Record) → stepAt d w s p ≡ Found a → zero < length (ahead d s p)
   found-left a f = let x = found-lies d w s p a f in omega (arith, x .low, x .fits)
 
-  refused-found : (k q : ℕ) (a : Record) → stepAt d w s p ≡ Refused k q → stepAt d w s p ≡ Found a → ⊥
+  refused-found : (k : Refusal) (q : ℕ) (a : Record) → stepAt d w s p ≡ Refused k q → stepAt d w s p ≡ Found a → ⊥
   refused-found k q a e f = let z : _≡_ {A = ℕ} 0 1 = cc in omega arith
 
   same-found : (a b : Record) → stepAt d w s p ≡ Found a → stepAt d w s p ≡ Found b → a .length ≡ b .length
   same-found a b e f = ap (λ (c : Record). c .length) (found-same (stepAt d w s p) a b e f)
 
-  by-step : {X : Type 0} → (length (ahead d s p) ≡ 0 → X) → ((k q : ℕ) → zero < length (ahead d s p) → stepAt d w s p ≡ Refused k q → X)
+  by-step : {X : Type 0} → (length (ahead d s p) ≡ 0 → X) → ((k : Refusal) (q : ℕ) → zero < length (ahead d s p) → stepAt d w s p ≡ Refused k q → X)
       → ((a : Record) → stepAt d w s p ≡ Found a → X) → X
   by-step {X} none refuses finds = go (length (ahead d s p)) refl (stepAt d w s p) refl
     where
@@ -142,7 +143,7 @@ module _ (d : Direction) (w : ℕ) (s : List ℕ) (p : ℕ) (h : Handle) (q : Re
   -- the next record refuses
   reads-corrupt : NextRefuses d w s p → ReadsFrom d w s p q (refused 0xC000018E 0 h out)
   reads-corrupt r =
-      let none : (a : Record) → stepAt d w s p ≡ Found a → ⊥ = λ a f. refused-found d w s p (r .number) (r .at) a (r .refused) f in
+      let none : (a : Record) → stepAt d w s p ≡ Found a → ⊥ = λ a f. refused-found d w s p (r .refusal) (r .at) a (r .refused) f in
       record {
         ended = never (λ k. omega (arith, k)) (λ e. omega (arith, e, r .left));
         corrupt = always refl r;
@@ -157,7 +158,7 @@ module _ (d : Direction) (w : ℕ) (s : List ℕ) (p : ℕ) (h : Handle) (q : Re
     left e = omega (arith, e, found-left d w s p a f)
 
     unrefused : NextRefuses d w s p → ⊥
-    unrefused r = refused-found d w s p (r .number) (r .at) a (r .refused) f
+    unrefused r = refused-found d w s p (r .refusal) (r .at) a (r .refused) f
 
     -- it is too long
     reads-small : q .size < a .length → ReadsFrom d w s p q (refused 0xC0000023 (a .length) h out)
@@ -196,7 +197,7 @@ module _ (d : Direction) (w : ℕ) (s : List ℕ) (p : ℕ) (h : Handle) (q : Re
     answered : servedWith h (delivering d w s p (q .size) out) ≡ chosen (leb (a .length) (q .size))
     unfolding delivering fitting
     answered =
-        ap (λ (t : Trace). servedWith h (delivered d s (q .size) out (t .refusal) (t .records))) (rest-found d w s p a (found-lies d w s p a f .inside) (found-left d w s p a f) f)
+        ap (λ (t : Trace). servedWith h (delivered d s (q .size) out (t .refusal .number) (t .records))) (rest-found d w s p a (found-lies d w s p a f .inside) (found-left d w s p a f) f)
 
     reads-chosen : (b : Bool) → leb (a .length) (q .size) ≡ b → ReadsFrom d w s p q (chosen b)
     reads-chosen false l = reads-small (leb-false (a .length) (q .size) l)
@@ -219,7 +220,7 @@ module _ (d : Direction) (w : ℕ) (s : List ℕ) (p : ℕ) (h : Handle) (q : Re
     reads-found = subst (ReadsFrom d w s p q) (sym answered) (reads-chosen (leb (a .length) (q .size)) refl)
 
   abbrev answerIn : Trace → Served
-  answerIn t = servedWith h (delivered d s (q .size) out (t .refusal) (t .records))
+  answerIn t = servedWith h (delivered d s (q .size) out (t .refusal .number) (t .records))
 
   pub reads-from : ReadsFrom d w s p q (servedWith h (delivering d w s p (q .size) out))
   unfolding delivering
@@ -227,8 +228,8 @@ module _ (d : Direction) (w : ℕ) (s : List ℕ) (p : ℕ) (h : Handle) (q : Re
       by-step d w s p
       (λ e. subst (ReadsFrom d w s p q) (sym (ap answerIn (rest-end d w s p e))) (reads-end e))
       (λ k j some f.
-      subst (ReadsFrom d w s p q) (sym (ap answerIn (rest-refused d w s p k j some f) ∙ ap (λ b. servedWith h (delivery (cond b End Corrupt) out)) (ne-eqb k 0 (λ none. omega (arith, none, refused-number d w s p k j f)))))
-      (reads-corrupt (record { left = some; number = k; at = j; refused = f })))
+      subst (ReadsFrom d w s p q) (sym (ap answerIn (rest-refused d w s p k j some f) ∙ ap (λ b. servedWith h (delivery (cond b End Corrupt) out)) (ne-eqb (k .number) 0 (λ none. omega (arith, none, refused-number d w s p k j f .1)))))
+      (reads-corrupt (record { left = some; refusal = k; at = j; refused = f })))
       reads-found
 
 -- the status is one of these four
@@ -236,7 +237,7 @@ pub by-status : {X : Type 0} (d : Direction) (w : ℕ) (s : List ℕ) (p : ℕ) 
     → (x .answer .status ≡ 0xC0000011 → X) → (x .answer .status ≡ 0xC000018E → X) → (x .answer .status ≡ 0xC0000023 → X) → (x .answer .status ≡ 0 → X) → X
 by-status {X} d w s p q x y ended corrupt small success =
     by-step d w s p (λ e. ended (y .ended .when e))
-    (λ k j some f. corrupt (y .corrupt .when (record { left = some; number = k; at = j; refused = f }))) (λ a f. go a f (leb (a .length) (q .size)) refl)
+    (λ k j some f. corrupt (y .corrupt .when (record { left = some; refusal = k; at = j; refused = f }))) (λ a f. go a f (leb (a .length) (q .size)) refl)
   where
     go : (a : Record) → stepAt d w s p ≡ Found a → (b : Bool) → leb (a .length) (q .size) ≡ b → X
     go a f true l =

@@ -112,34 +112,34 @@ module _ (d : Direction) (w : ℕ) (s : List ℕ) (h : Handle) (q : Read) (asks 
       (sym
       (seek-started d w s h q asks
       ∙ ap (started d w s (q .size) h (q .output))
-      (ap (λ bs. sought d (q .number) (trace Forwards w s .refusal) bs) (y .whole)
-      ∙ sought-first d (q .number) (trace Forwards w s .refusal) (y .older) a (y .newer) (y .others) (y .numbered))))
+      (ap (λ bs. sought d (q .number) (trace Forwards w s .refusal .number) bs) (y .whole)
+      ∙ sought-first d (q .number) (trace Forwards w s .refusal .number) (y .older) a (y .newer) (y .others) (y .numbered))))
       (reads-from d w s (placeOf d a) h q)
 
-  pub seek-absent : NoneHas w s (q .number) → trace Forwards w s .refusal ≡ 0 → x ≡ refused 0xC000000D 0 h (q .output)
+  pub seek-absent : NoneHas w s (q .number) → trace Forwards w s .refusal .number ≡ 0 → x ≡ refused 0xC000000D 0 h (q .output)
   seek-absent n e =
       seek-none d w s h q asks (n .others)
-      ∙ ap (λ b. refused (cond b 0xC000000D 0xC000018E) 0 h (q .output)) (eq-eqb (trace Forwards w s .refusal) 0 e)
+      ∙ ap (λ b. refused (cond b 0xC000000D 0xC000018E) 0 h (q .output)) (eq-eqb (trace Forwards w s .refusal .number) 0 e)
 
-  pub seek-corrupt : NoneHas w s (q .number) → (trace Forwards w s .refusal ≡ 0 → ⊥) → x ≡ refused 0xC000018E 0 h (q .output)
+  pub seek-corrupt : NoneHas w s (q .number) → (trace Forwards w s .refusal .number ≡ 0 → ⊥) → x ≡ refused 0xC000018E 0 h (q .output)
   seek-corrupt n e =
       seek-none d w s h q asks (n .others)
-      ∙ ap (λ b. refused (cond b 0xC000000D 0xC000018E) 0 h (q .output)) (ne-eqb (trace Forwards w s .refusal) 0 e)
+      ∙ ap (λ b. refused (cond b 0xC000000D 0xC000018E) 0 h (q .output)) (ne-eqb (trace Forwards w s .refusal .number) 0 e)
 
   abbrev status : ℕ
   status = x .answer .status
 
   -- the walk ends with a refusal or without one
-  by-end : {X : Type 0} → NoneHas w s (q .number) → (trace Forwards w s .refusal ≡ 0 → status ≡ 0xC000000D → X)
-      → ((trace Forwards w s .refusal ≡ 0 → ⊥) → status ≡ 0xC000018E → X) → X
-  by-end {X} n f g = go (eqb (trace Forwards w s .refusal) 0) refl
+  by-end : {X : Type 0} → NoneHas w s (q .number) → (trace Forwards w s .refusal .number ≡ 0 → status ≡ 0xC000000D → X)
+      → ((trace Forwards w s .refusal .number ≡ 0 → ⊥) → status ≡ 0xC000018E → X) → X
+  by-end {X} n f g = go (eqb (trace Forwards w s .refusal .number) 0) refl
     where
-      go : (b : Bool) → eqb (trace Forwards w s .refusal) 0 ≡ b → X
+      go : (b : Bool) → eqb (trace Forwards w s .refusal .number) 0 ≡ b → X
       go true e =
-          let none-left = eqb-true (trace Forwards w s .refusal) 0 e in
+          let none-left = eqb-true (trace Forwards w s .refusal .number) 0 e in
           f none-left (ap (λ (y : Served). y .answer .status) (seek-absent n none-left))
       go false e =
-          let some-left = eqb-false (trace Forwards w s .refusal) 0 e in
+          let some-left = eqb-false (trace Forwards w s .refusal .number) 0 e in
           g some-left (ap (λ (y : Served). y .answer .status) (seek-corrupt n some-left))
 
   -- the record fits or is too long
@@ -202,7 +202,7 @@ module _ (d : Direction) (w : ℕ) (s : List ℕ) (h : Handle) (q : Read) (asks 
       }
 
   -- the status is one of these four
-  pub seek-status : {X : Type 0} → (NoneHas w s (q .number) → trace Forwards w s .refusal ≡ 0 → status ≡ 0xC000000D → X)
+  pub seek-status : {X : Type 0} → (NoneHas w s (q .number) → trace Forwards w s .refusal .number ≡ 0 → status ≡ 0xC000000D → X)
       → (status ≡ 0xC000018E → X) → (status ≡ 0xC0000023 → X) → (status ≡ 0 → X) → X
   seek-status absent corrupt small success =
       by-number w s (q .number) (λ n. by-end n (absent n) (λ e. corrupt))
