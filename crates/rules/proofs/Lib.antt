@@ -1,3 +1,4 @@
+mod FirstPart
 mod RuleOrder
 mod NameSearch
 mod PartTests
