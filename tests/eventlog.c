@@ -9,14 +9,14 @@ _Static_assert(sizeof(eventlog_fields) == 24, "eventlog_fields");
 _Static_assert(sizeof(eventlog_unnumbered) == 20, "eventlog_unnumbered");
 _Static_assert(sizeof(eventlog_part) == 16, "eventlog_part");
 _Static_assert(sizeof(eventlog_record) == 120, "eventlog_record");
-_Static_assert(sizeof(eventlog_stepped) == 136, "eventlog_stepped");
+_Static_assert(sizeof(eventlog_stepped) == 144, "eventlog_stepped");
 _Static_assert(sizeof(eventlog_next) == 32, "eventlog_next");
-_Static_assert(sizeof(eventlog_walked) == 24, "eventlog_walked");
+_Static_assert(sizeof(eventlog_walked) == 32, "eventlog_walked");
 _Static_assert(sizeof(eventlog_written) == 16, "eventlog_written");
-_Static_assert(sizeof(eventlog_appended) == 16, "eventlog_appended");
+_Static_assert(sizeof(eventlog_appended) == 24, "eventlog_appended");
 _Static_assert(sizeof(eventlog_handle) == 16, "eventlog_handle");
 _Static_assert(sizeof(eventlog_answer) == 40, "eventlog_answer");
-_Static_assert(offsetof(eventlog_stepped, found) == 16, "eventlog_stepped.found");
+_Static_assert(offsetof(eventlog_stepped, found) == 24, "eventlog_stepped.found");
 _Static_assert(offsetof(eventlog_next, string) == 8, "eventlog_next.string");
 _Static_assert(offsetof(eventlog_answer, handle) == 24, "eventlog_answer.handle");
 
@@ -921,7 +921,7 @@ static void longest_record_in_a_log(void)
     CHECK(a.refusal == 0 && a.field == 0 && a.used == LONG_END);
     a = append_event(log, LONG_LOG, LONG_END, event_t);
     CHECK(a.refusal == 0 && a.field == 0 && a.used == LONG_LOG);
-    eventlog_walked front = WALKED(3, 0, LONG_LOG), rear = WALKED(3, 0, 0, 0);
+    eventlog_walked front = WALKED(3, 0, 0, LONG_LOG), rear = WALKED(3, 0, 0, 0);
     CHECK(same_walked(eventlog_walk(log, LONG_LOG), front));
     CHECK(same_walked(eventlog_walk_back(log, LONG_LOG), rear));
     eventlog_record found = eventlog_step(log, LONG_LOG, S_LENGTH).found;
