@@ -170,7 +170,7 @@ pub fn records_back(buffer: &[u8]) -> RecordsBack<'_> {
 /// assert!(records.next().is_some_and(|record| record.is_ok()));
 /// assert!(records.next().is_some_and(|record| record.is_err()));
 /// assert_eq!(records.next(), None);
-/// # Ok::<(), eventlog::Refusal>(())
+/// # Ok::<(), eventlog::Refused>(())
 /// ```
 #[derive(Clone, Debug)]
 #[must_use = "an iterator does nothing until it is asked for items"]
@@ -192,7 +192,7 @@ impl Records<'_> {
     /// let mut records = records(&log);
     /// records.by_ref().for_each(drop);
     /// assert_eq!(records.place(), used);
-    /// # Ok::<(), eventlog::Refusal>(())
+    /// # Ok::<(), eventlog::Refused>(())
     /// ```
     #[must_use]
     pub fn place(&self) -> usize {
@@ -233,7 +233,7 @@ impl FusedIterator for Records<'_> {}
 /// let mut records = records_back(&log[..used]);
 /// assert!(records.next().is_some_and(|record| record.is_ok()));
 /// assert_eq!(records.next(), None);
-/// # Ok::<(), eventlog::Refusal>(())
+/// # Ok::<(), eventlog::Refused>(())
 /// ```
 #[derive(Clone, Debug)]
 #[must_use = "an iterator does nothing until it is asked for items"]
@@ -256,7 +256,7 @@ impl RecordsBack<'_> {
     /// assert_eq!(records.place(), used);
     /// records.by_ref().for_each(drop);
     /// assert_eq!(records.place(), 0);
-    /// # Ok::<(), eventlog::Refusal>(())
+    /// # Ok::<(), eventlog::Refused>(())
     /// ```
     #[must_use]
     pub fn place(&self) -> usize {
