@@ -66,36 +66,39 @@ extern "C" {
 
 #define EVENTLOG_VERSION "0.1.0"
 
-/* Why a call refuses (Rule 4.2). Reading tests 1 to 13 in this order, and the first test that fails decides. */
+/* Why a call refuses (Rule 4.2). Reading tests 1 to 13 in this order, and the first test that fails decides. A
+ * record's refusal comes with the field that failed (Rule 4.25): its place, counted from the record's start. The
+ * field is named here beside each number; for a success and for all others it is 0. */
 #define EVENTLOG_NOT_REFUSED 0u
-/* The place is past the buffer's end, or too few bytes for any record stand there. */
+/* The place is past the buffer's end, or too few bytes for any record stand there. Field 0. */
 #define EVENTLOG_REFUSED_PLACE 1u
-/* Length is no multiple of 4, or not within its limits (Rule 2.3). */
+/* Length is no multiple of 4, or not within its limits (Rule 2.3). Field 0, Length; from the rear 0 as well. */
 #define EVENTLOG_REFUSED_LENGTH 2u
-/* Length is more than the bytes left. */
+/* Length is more than the bytes left. Field 0. */
 #define EVENTLOG_REFUSED_CUT_SHORT 3u
-/* Reserved is not 0x654C664C. */
+/* Reserved is not 0x654C664C. Field 4. */
 #define EVENTLOG_REFUSED_SIGNATURE 4u
-/* Length2 differs from Length. */
+/* Length2 differs from Length. Field Length - 4, Length2's place; from the rear 0, Length. */
 #define EVENTLOG_REFUSED_LENGTH2 5u
-/* The event type is none of the six (Rule 2.8). */
+/* The event type is none of the six (Rule 2.8). Field 24. */
 #define EVENTLOG_REFUSED_EVENT_TYPE 6u
-/* The flags are not 0, and not 0x8000 with at least one string. */
+/* The flags are not 0, and not 0x8000 with at least one string. Field 30. */
 #define EVENTLOG_REFUSED_FLAGS 7u
-/* There are more than 256 strings. */
+/* There are more than 256 strings. Field 26. */
 #define EVENTLOG_REFUSED_STRING_COUNT 8u
-/* A name does not end before Length2 (Rule 3.5); for writing, it is not whole units without a zero one. */
+/* A name does not end before Length2 (Rule 3.5); for writing, it is not whole units without a zero one. Field: where
+ * that name starts, 56 or Computername's place. */
 #define EVENTLOG_REFUSED_NAME 9u
-/* A SID is present, and its form, its offset or its end is wrong (Rule 4.6). */
+/* A SID is present, and its form, its offset or its end is wrong (Rule 4.6). Field 44, UserSidOffset. */
 #define EVENTLOG_REFUSED_SID 10u
 /* Strings are present, and their offset is wrong or one does not end before Length2 (Rule 4.7); for writing,
- * they are not as many as said. */
+ * they are not as many as said. Field 36, StringOffset. */
 #define EVENTLOG_REFUSED_STRINGS 11u
-/* Data is present, and it is too long, or its offset or its end is wrong (Rule 4.8). */
+/* Data is present, and it is too long, or its offset or its end is wrong (Rule 4.8). Field 48, DataLength. */
 #define EVENTLOG_REFUSED_DATA 12u
-/* Length is not the size that the parts add up to (Rule 2.20). */
+/* Length is not the size that the parts add up to (Rule 2.20). Field 0. */
 #define EVENTLOG_REFUSED_SIZE 13u
-/* The log does not end with a good record. */
+/* The log does not end with a good record. Field: that of the record's own refusal, as eventlog_step_back has it. */
 #define EVENTLOG_REFUSED_LOG_END 14u
 /* The output is too short. */
 #define EVENTLOG_REFUSED_OUTPUT 15u
@@ -192,10 +195,18 @@ typedef struct {
     eventlog_part event_data;
 } eventlog_record;
 
-/* What a step answers: the refusal, 0 for none; the place asked for, refused or not; the record, all 0 where
- * it is refused. */
+/* A record's refusal, 0 for none, and the field that failed, counted from the record's start. In the structs below
+ * they stand side by side under the same names. */
 typedef struct {
     uint32_t refusal;
+    size_t field;
+} eventlog_refused;
+
+/* What a step answers: the refusal, 0 for none, and its field; the place asked for, refused or not; the record, all
+ * 0 where it is refused. */
+typedef struct {
+    uint32_t refusal;
+    size_t field;
     size_t at;
     eventlog_record found;
 } eventlog_stepped;
@@ -209,12 +220,13 @@ typedef struct {
     size_t next;
 } eventlog_next;
 
-/* How many records a walk found before it ended, the refusal that ended it, 0 for none, and where it stopped: the
- * place of the record that was refused, from the rear its end; without a refusal the batch's length, from the rear
- * 0. */
+/* How many records a walk found before it ended, the refusal that ended it, 0 for none, its field, and where it
+ * stopped: the place of the record that was refused, from the rear its end; without a refusal the batch's length, from
+ * the rear 0. */
 typedef struct {
     size_t count;
     uint32_t refusal;
+    size_t field;
     size_t at;
 } eventlog_walked;
 
@@ -224,9 +236,10 @@ typedef struct {
     size_t length;
 } eventlog_written;
 
-/* The refusal, 0 for none, and how much of the log's buffer is used now. */
+/* The refusal, 0 for none, its field, which only 14 has, and how much of the log's buffer is used now. */
 typedef struct {
     uint32_t refusal;
+    size_t field;
     size_t used;
 } eventlog_appended;
 
@@ -257,9 +270,9 @@ eventlog_stepped eventlog_step(const uint8_t *buffer, size_t buffer_len, size_t 
  * Cost: as eventlog_step. */
 eventlog_stepped eventlog_step_back(const uint8_t *buffer, size_t buffer_len, size_t end);
 
-/* The refusal of the record that starts at a place, 1 to 13, or 0 where nothing is refused.
+/* The refusal of the record that starts at a place, 1 to 13, and its field; 0 and 0 where nothing is refused.
  * Cost: its names and strings are looked at once. */
-uint32_t eventlog_refusal(const uint8_t *buffer, size_t buffer_len, size_t at);
+eventlog_refused eventlog_refusal(const uint8_t *buffer, size_t buffer_len, size_t at);
 
 /* Where string k, counted from 0, of the record that starts at a place lies, without its zero unit; at 0 with
  * length 0 where it is refused.
@@ -267,9 +280,10 @@ uint32_t eventlog_refusal(const uint8_t *buffer, size_t buffer_len, size_t at);
  * number of strings times the record; eventlog_next_string takes the run once. */
 eventlog_part eventlog_string(const uint8_t *buffer, size_t buffer_len, size_t at, uint32_t k);
 
-/* The refusal of string k: the record's, 1 to 13; 17 where k is not below its number of strings; else 0.
+/* The refusal of string k: the record's, 1 to 13, with its field; 17 where k is not below its number of strings, with
+ * field 0; else 0 and 0.
  * Cost: as eventlog_step. */
-uint32_t eventlog_string_refusal(const uint8_t *buffer, size_t buffer_len, size_t at, uint32_t k);
+eventlog_refused eventlog_string_refusal(const uint8_t *buffer, size_t buffer_len, size_t at, uint32_t k);
 
 /* The string that starts at a place of a run of strings, and the place after its zero unit. The run is the strings of
  * a record as a step answers them, or any other part; no record is judged. Ask at the run's own place first, and then
@@ -316,7 +330,8 @@ eventlog_written eventlog_write(eventlog_fields fields,
 /* Appends a record behind the used bytes of the log and answers how much is used then. Its number is 1 where
  * used is 0, else the last record's plus one; after 4,294,967,295 comes 0. The parts are as in eventlog_write.
  * Refused with 1 where used is more than log_len; with 14 where used is not 0 and eventlog_step_back refuses
- * there; then as in eventlog_write, the rest of the log being the output. Records before the last are not
+ * there, with the field of that refusal; then as in eventlog_write, the rest of the log being the output. All others
+ * have field 0. Records before the last are not
  * judged. A refusal answers the old used length and leaves the log as it was; a success leaves the log before
  * the old used length and past the new one. eventlog_append_event takes the same as a struct.
  * Cost: as eventlog_step_back and eventlog_write, however long the log is. */
@@ -355,8 +370,8 @@ eventlog_answer eventlog_read(eventlog_handle handle, const uint8_t *log, size_t
 
 /* Writes the listing of a batch over the start of the output and answers the length of the text: a line
  * `records N`, then for each record from the front a line `start Length number`. Where eventlog_walk refuses
- * the batch, the text is only the line `refused K at P`, the refusal and the place of the record, and the call
- * still answers refusal 0. Numbers are decimal; each line ends with one newline, and no zero byte follows. An
+ * the batch, the text is only the line `refused K at P field F`, the refusal, the place of the record and the
+ * field that failed, and the call still answers refusal 0. Numbers are decimal; each line ends with one newline, and no zero byte follows. An
  * output that is shorter than the text is refused with 15 and length 0, and left as it was. Else the output past
  * the text is left. EVENTLOG_LISTING_ROOM bytes more than the batch are always enough.
  * Cost: the records are stepped over twice, once to measure the text. */

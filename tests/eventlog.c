@@ -9,14 +9,14 @@ _Static_assert(sizeof(eventlog_fields) == 24, "eventlog_fields");
 _Static_assert(sizeof(eventlog_unnumbered) == 20, "eventlog_unnumbered");
 _Static_assert(sizeof(eventlog_part) == 16, "eventlog_part");
 _Static_assert(sizeof(eventlog_record) == 120, "eventlog_record");
-_Static_assert(sizeof(eventlog_stepped) == 136, "eventlog_stepped");
+_Static_assert(sizeof(eventlog_stepped) == 144, "eventlog_stepped");
 _Static_assert(sizeof(eventlog_next) == 32, "eventlog_next");
-_Static_assert(sizeof(eventlog_walked) == 24, "eventlog_walked");
+_Static_assert(sizeof(eventlog_walked) == 32, "eventlog_walked");
 _Static_assert(sizeof(eventlog_written) == 16, "eventlog_written");
-_Static_assert(sizeof(eventlog_appended) == 16, "eventlog_appended");
+_Static_assert(sizeof(eventlog_appended) == 24, "eventlog_appended");
 _Static_assert(sizeof(eventlog_handle) == 16, "eventlog_handle");
 _Static_assert(sizeof(eventlog_answer) == 40, "eventlog_answer");
-_Static_assert(offsetof(eventlog_stepped, found) == 16, "eventlog_stepped.found");
+_Static_assert(offsetof(eventlog_stepped, found) == 24, "eventlog_stepped.found");
 _Static_assert(offsetof(eventlog_next, string) == 8, "eventlog_next.string");
 _Static_assert(offsetof(eventlog_answer, handle) == 24, "eventlog_answer.handle");
 
@@ -24,12 +24,16 @@ _Static_assert(offsetof(eventlog_answer, handle) == 24, "eventlog_answer.handle"
 #define WIDTH(type, member) sizeof(((type *)0)->member)
 _Static_assert(WIDTH(eventlog_part, at) == 8 && WIDTH(eventlog_part, len) == 8, "eventlog_part");
 _Static_assert(WIDTH(eventlog_record, start) == 8 && WIDTH(eventlog_record, length) == 8, "eventlog_record");
-_Static_assert(WIDTH(eventlog_stepped, refusal) == 4 && WIDTH(eventlog_stepped, at) == 8, "eventlog_stepped");
+_Static_assert(WIDTH(eventlog_refused, refusal) == 4 && WIDTH(eventlog_refused, field) == 8, "eventlog_refused");
+_Static_assert(WIDTH(eventlog_stepped, refusal) == 4 && WIDTH(eventlog_stepped, field) == 8, "eventlog_stepped");
+_Static_assert(WIDTH(eventlog_stepped, at) == 8, "eventlog_stepped");
 _Static_assert(WIDTH(eventlog_next, refusal) == 4 && WIDTH(eventlog_next, next) == 8, "eventlog_next");
 _Static_assert(WIDTH(eventlog_walked, count) == 8 && WIDTH(eventlog_walked, refusal) == 4, "eventlog_walked");
+_Static_assert(WIDTH(eventlog_walked, field) == 8, "eventlog_walked");
 _Static_assert(WIDTH(eventlog_walked, at) == 8, "eventlog_walked");
 _Static_assert(WIDTH(eventlog_written, refusal) == 4 && WIDTH(eventlog_written, length) == 8, "eventlog_written");
 _Static_assert(WIDTH(eventlog_appended, refusal) == 4 && WIDTH(eventlog_appended, used) == 8, "eventlog_appended");
+_Static_assert(WIDTH(eventlog_appended, field) == 8, "eventlog_appended");
 _Static_assert(WIDTH(eventlog_handle, kind) == 4 && WIDTH(eventlog_handle, boundary) == 8, "eventlog_handle");
 _Static_assert(WIDTH(eventlog_answer, status) == 4 && WIDTH(eventlog_answer, read) == 8, "eventlog_answer");
 _Static_assert(WIDTH(eventlog_answer, needed) == 8, "eventlog_answer");
@@ -167,19 +171,25 @@ static void fill(uint8_t *p, size_t n)
 
 /* ---- step, step_back, refusal ---- */
 
+/* A refusal and its field. */
+static int refused(eventlog_refused x, uint32_t refusal, size_t field)
+{
+    return x.refusal == refusal && x.field == field;
+}
+
 static void finds(int line, eventlog_stepped x, size_t at, eventlog_record want)
 {
-    CHECK_AT(line, x.refusal == 0);
+    CHECK_AT(line, x.refusal == 0 && x.field == 0);
     CHECK_AT(line, x.at == at);
     CHECK_AT(line, x.found.start == want.start && x.found.length == want.length);
     CHECK_AT(line, same_fields(x.found.fields, want.fields));
     CHECK_AT(line, same_parts(x.found, want));
 }
 
-static void step_refuses(int line, eventlog_stepped x, size_t at, uint32_t refusal)
+static void step_refuses(int line, eventlog_stepped x, size_t at, uint32_t refusal, size_t field)
 {
     const eventlog_record nothing = {.start = 0};
-    CHECK_AT(line, x.refusal == refusal);
+    CHECK_AT(line, x.refusal == refusal && x.field == field);
     CHECK_AT(line, x.at == at);
     CHECK_AT(line, x.found.start == 0 && x.found.length == 0);
     CHECK_AT(line, same_fields(x.found.fields, nothing.fields));
@@ -194,10 +204,10 @@ static void steps_find(void)
     finds(__LINE__, eventlog_step_back(batch, END, T), T, record_s(0));
     finds(__LINE__, eventlog_step_back(batch, END, END), END, record_t(T));
     finds(__LINE__, eventlog_step_back(batch + T, T_LENGTH, T_LENGTH), T_LENGTH, record_t(0));
-    CHECK(eventlog_refusal(batch, END, S) == 0 && eventlog_refusal(batch, END, T) == 0);
+    CHECK(refused(eventlog_refusal(batch, END, S), 0, 0) && refused(eventlog_refusal(batch, END, T), 0, 0));
 }
 
-/* Places where no record of the first len bytes starts or ends: the refusals of both steps. */
+/* Places where no record of the first len bytes starts or ends: the refusals of both steps. All have field 0. */
 static const struct {
     int line;
     size_t len, at;
@@ -218,53 +228,56 @@ static void steps_refuse_places(void)
     for (size_t i = 0; i < COUNT(misplaced); i++) {
         int line = misplaced[i].line;
         size_t len = misplaced[i].len, at = misplaced[i].at;
-        step_refuses(line, eventlog_step(batch, len, at), at, misplaced[i].front);
-        step_refuses(line, eventlog_step_back(batch, len, at), at, misplaced[i].rear);
-        CHECK_AT(line, eventlog_refusal(batch, len, at) == misplaced[i].front);
+        step_refuses(line, eventlog_step(batch, len, at), at, misplaced[i].front, 0);
+        step_refuses(line, eventlog_step_back(batch, len, at), at, misplaced[i].rear, 0);
+        CHECK_AT(line, refused(eventlog_refusal(batch, len, at), misplaced[i].front, 0));
     }
-    step_refuses(__LINE__, eventlog_step(NULL, 0, 0), 0, 1);
-    step_refuses(__LINE__, eventlog_step_back(NULL, 0, 0), 0, 1);
-    CHECK(eventlog_refusal(NULL, 0, 0) == 1);
+    step_refuses(__LINE__, eventlog_step(NULL, 0, 0), 0, 1, 0);
+    step_refuses(__LINE__, eventlog_step_back(NULL, 0, 0), 0, 1, 0);
+    CHECK(refused(eventlog_refusal(NULL, 0, 0), 1, 0));
 }
 
-/* One byte of S or T is another: the refusals from the front and from the rear. */
+/* One byte of S or T is another: the refusals from the front and from the rear, each with its field. */
 static const struct {
     int line;
     size_t record, at;
     uint8_t byte;
-    uint32_t front, rear;
+    uint32_t front;
+    size_t front_field;
+    uint32_t rear;
+    size_t rear_field;
 } corrupted[] = {
-    {__LINE__, S, 0, 60, 2, 5},
-    {__LINE__, T, 0, 102, 2, 5},
-    {__LINE__, T, 2, 1, 3, 5}, /* Length 65,640 */
-    {__LINE__, T, 2, 3, 3, 5}, /* 196,712 */
-    {__LINE__, T, 2, 4, 2, 5}, /* 262,248 */
-    {__LINE__, T, 3, 1, 2, 5}, /* 16,777,320 */
-    {__LINE__, T, 102, 1, 5, 3},
-    {__LINE__, T, 102, 4, 5, 2},
-    {__LINE__, T, 0, 108, 3, 5},
-    {__LINE__, T, 4, 0, 4, 4},
-    {__LINE__, T, 100, 60, 5, 2},
-    {__LINE__, T, 100, 108, 5, 3},
-    {__LINE__, T, 100, 100, 5, 4}, /* from the rear the record starts at 4 */
-    {__LINE__, T, 24, 3, 6, 6},
-    {__LINE__, T, 24, 32, 6, 6},
-    {__LINE__, T, 31, 0x40, 7, 7},
-    {__LINE__, S, 31, 0x80, 7, 7}, /* 0x8000 without a string */
-    {__LINE__, T, 26, 0, 7, 7},
-    {__LINE__, T, 27, 1, 8, 8}, /* 257 strings */
-    {__LINE__, S, 56, 1, 9, 9},
-    {__LINE__, S, 58, 1, 9, 9},
-    {__LINE__, T, 40, 8, 10, 10},
-    {__LINE__, T, 44, 77, 10, 10},
-    {__LINE__, T, 76, 2, 10, 10},
-    {__LINE__, T, 77, 2, 10, 10},
-    {__LINE__, T, 36, 90, 11, 11},
-    {__LINE__, T, 26, 3, 11, 11},
-    {__LINE__, T, 52, 95, 12, 12},
-    {__LINE__, T, 48, 7, 12, 12},
-    {__LINE__, T, 50, 1, 12, 12}, /* 65,539 data bytes */
-    {__LINE__, T, 48, 2, 13, 13},
+    {__LINE__, S, 0, 60, 2, 0, 5, 0},
+    {__LINE__, T, 0, 102, 2, 0, 5, 0},
+    {__LINE__, T, 2, 1, 3, 0, 5, 0}, /* Length 65,640 */
+    {__LINE__, T, 2, 3, 3, 0, 5, 0}, /* 196,712 */
+    {__LINE__, T, 2, 4, 2, 0, 5, 0}, /* 262,248 */
+    {__LINE__, T, 3, 1, 2, 0, 5, 0}, /* 16,777,320 */
+    {__LINE__, T, 102, 1, 5, 100, 3, 0},
+    {__LINE__, T, 102, 4, 5, 100, 2, 0},
+    {__LINE__, T, 0, 108, 3, 0, 5, 0},
+    {__LINE__, T, 4, 0, 4, 4, 4, 4},
+    {__LINE__, T, 100, 60, 5, 100, 2, 0},
+    {__LINE__, T, 100, 108, 5, 100, 3, 0},
+    {__LINE__, T, 100, 100, 5, 100, 4, 4}, /* from the rear the record starts at 4 */
+    {__LINE__, T, 24, 3, 6, 24, 6, 24},
+    {__LINE__, T, 24, 32, 6, 24, 6, 24},
+    {__LINE__, T, 31, 0x40, 7, 30, 7, 30},
+    {__LINE__, S, 31, 0x80, 7, 30, 7, 30}, /* 0x8000 without a string */
+    {__LINE__, T, 26, 0, 7, 30, 7, 30},
+    {__LINE__, T, 27, 1, 8, 26, 8, 26}, /* 257 strings */
+    {__LINE__, S, 56, 1, 9, 60, 9, 60},
+    {__LINE__, S, 58, 1, 9, 58, 9, 58},
+    {__LINE__, T, 40, 8, 10, 44, 10, 44},
+    {__LINE__, T, 44, 77, 10, 44, 10, 44},
+    {__LINE__, T, 76, 2, 10, 44, 10, 44},
+    {__LINE__, T, 77, 2, 10, 44, 10, 44},
+    {__LINE__, T, 36, 90, 11, 36, 11, 36},
+    {__LINE__, T, 26, 3, 11, 36, 11, 36},
+    {__LINE__, T, 52, 95, 12, 48, 12, 48},
+    {__LINE__, T, 48, 7, 12, 48, 12, 48},
+    {__LINE__, T, 50, 1, 12, 48, 12, 48}, /* 65,539 data bytes */
+    {__LINE__, T, 48, 2, 13, 0, 13, 0},
 };
 
 static void corrupted_records_are_refused(void)
@@ -275,16 +288,18 @@ static void corrupted_records_are_refused(void)
         uint8_t r[T_LENGTH];
         memcpy(r, batch + corrupted[i].record, len);
         r[corrupted[i].at] = corrupted[i].byte;
-        step_refuses(line, eventlog_step(r, len, 0), 0, corrupted[i].front);
-        step_refuses(line, eventlog_step_back(r, len, len), len, corrupted[i].rear);
-        CHECK_AT(line, eventlog_refusal(r, len, 0) == corrupted[i].front);
-        CHECK_AT(line, eventlog_string_refusal(r, len, 0, 0) == corrupted[i].front);
+        uint32_t front = corrupted[i].front, rear = corrupted[i].rear;
+        size_t front_field = corrupted[i].front_field, rear_field = corrupted[i].rear_field;
+        step_refuses(line, eventlog_step(r, len, 0), 0, front, front_field);
+        step_refuses(line, eventlog_step_back(r, len, len), len, rear, rear_field);
+        CHECK_AT(line, refused(eventlog_refusal(r, len, 0), front, front_field));
+        CHECK_AT(line, refused(eventlog_string_refusal(r, len, 0, 0), front, front_field));
         eventlog_part string = eventlog_string(r, len, 0, 0);
         CHECK_AT(line, string.at == 0 && string.len == 0);
         eventlog_walked w = eventlog_walk(r, len);
-        CHECK_AT(line, w.count == 0 && w.refusal == corrupted[i].front && w.at == 0);
+        CHECK_AT(line, w.count == 0 && w.refusal == front && w.field == front_field && w.at == 0);
         w = eventlog_walk_back(r, len);
-        CHECK_AT(line, w.count == 0 && w.refusal == corrupted[i].rear && w.at == len);
+        CHECK_AT(line, w.count == 0 && w.refusal == rear && w.field == rear_field && w.at == len);
     }
 }
 
@@ -326,11 +341,11 @@ static void strings_are_found(void)
     for (size_t i = 0; i < COUNT(asked); i++) {
         eventlog_part part = eventlog_string(s, sizeof s, asked[i].at, asked[i].k);
         CHECK_AT(asked[i].line, same_part(part, asked[i].part));
-        CHECK_AT(asked[i].line, eventlog_string_refusal(s, sizeof s, asked[i].at, asked[i].k) == asked[i].refusal);
+        CHECK_AT(asked[i].line, refused(eventlog_string_refusal(s, sizeof s, asked[i].at, asked[i].k), asked[i].refusal, 0));
     }
     eventlog_part part = eventlog_string(NULL, 0, 0, 0);
     CHECK(part.at == 0 && part.len == 0);
-    CHECK(eventlog_string_refusal(NULL, 0, 0, 0) == 1);
+    CHECK(refused(eventlog_string_refusal(NULL, 0, 0, 0), 1, 0));
 }
 
 #define NO_STRING(place) {.refusal = 17, .string = {.at = 0, .len = 0}, .next = (place)}
@@ -404,11 +419,11 @@ static void next_strings_are_found(void)
 
 /* ---- walk, walk_back ---- */
 
-#define WALKED(records, number, place) {.count = (records), .refusal = (number), .at = (place)}
+#define WALKED(records, number, failed, place) {.count = (records), .refusal = (number), .field = (failed), .at = (place)}
 
 static int same_walked(eventlog_walked a, eventlog_walked b)
 {
-    return a.count == b.count && a.refusal == b.refusal && a.at == b.at;
+    return a.count == b.count && a.refusal == b.refusal && a.field == b.field && a.at == b.at;
 }
 
 static void walks_answer(void)
@@ -424,15 +439,15 @@ static void walks_answer(void)
         size_t len;
         eventlog_walked front, rear;
     } rows[] = {
-        {__LINE__, batch, END, WALKED(2, 0, END), WALKED(2, 0, 0)},
-        {__LINE__, batch, T, WALKED(1, 0, T), WALKED(1, 0, 0)},
-        {__LINE__, NULL, 0, WALKED(0, 0, 0), WALKED(0, 0, 0)},
+        {__LINE__, batch, END, WALKED(2, 0, 0, END), WALKED(2, 0, 0, 0)},
+        {__LINE__, batch, T, WALKED(1, 0, 0, T), WALKED(1, 0, 0, 0)},
+        {__LINE__, NULL, 0, WALKED(0, 0, 0, 0), WALKED(0, 0, 0, 0)},
         /* the last four of 167 bytes are 0, 104, 0, 0: a Length of 26,624 */
-        {__LINE__, batch, END - 1, WALKED(1, 3, T), WALKED(0, 3, END - 1)},
-        {__LINE__, batch, T + 63, WALKED(1, 1, T), WALKED(0, 2, T + 63)},
-        {__LINE__, batch + 1, END - 1, WALKED(0, 2, 0), WALKED(1, 1, T - 1)},
-        {__LINE__, bad_s, END, WALKED(0, 6, 0), WALKED(1, 6, T)},
-        {__LINE__, bad_t, END, WALKED(1, 7, T), WALKED(0, 7, END)},
+        {__LINE__, batch, END - 1, WALKED(1, 3, 0, T), WALKED(0, 3, 0, END - 1)},
+        {__LINE__, batch, T + 63, WALKED(1, 1, 0, T), WALKED(0, 2, 0, T + 63)},
+        {__LINE__, batch + 1, END - 1, WALKED(0, 2, 0, 0), WALKED(1, 1, 0, T - 1)},
+        {__LINE__, bad_s, END, WALKED(0, 6, 24, 0), WALKED(1, 6, 24, T)},
+        {__LINE__, bad_t, END, WALKED(1, 7, 30, T), WALKED(0, 7, 30, END)},
     };
     for (size_t i = 0; i < COUNT(rows); i++) {
         CHECK_AT(rows[i].line, same_walked(eventlog_walk(rows[i].s, rows[i].len), rows[i].front));
@@ -493,7 +508,7 @@ static void append_refuses(int line, size_t log_len, size_t used, eventlog_event
     memcpy(log, batch, END);
     memcpy(before, log, LOG);
     eventlog_appended a = append_event(log, log_len, used, e);
-    CHECK_AT(line, a.refusal == refusal);
+    CHECK_AT(line, a.refusal == refusal && a.field == 0);
     CHECK_AT(line, a.used == used);
     CHECK_AT(line, memcmp(log, before, LOG) == 0);
 }
@@ -577,7 +592,7 @@ static void write_accepts(int line, eventlog_event e, size_t length)
     CHECK_AT(line, w.refusal == 0);
     CHECK_AT(line, w.length == length);
     CHECK_AT(line, memcmp(out + length, want + length, ROOM - length) == 0);
-    CHECK_AT(line, eventlog_refusal(out, length, 0) == 0);
+    CHECK_AT(line, refused(eventlog_refusal(out, length, 0), 0, 0));
     CHECK_AT(line, eventlog_step_back(out, length, length).refusal == 0);
 }
 
@@ -618,13 +633,13 @@ static void append_numbers(void)
     memcpy(after, batch + S, S_LENGTH);
     memcpy(after + 8, (const uint8_t[]){1, 0, 0, 0}, 4);
     eventlog_appended a = append_event(log, LOG, 0, event_s);
-    CHECK(a.refusal == 0 && a.used == T);
+    CHECK(a.refusal == 0 && a.field == 0 && a.used == T);
     CHECK(memcmp(log, after, LOG) == 0);
 
     memcpy(after + T, batch + T, T_LENGTH);
     memcpy(after + T + 8, (const uint8_t[]){2, 0, 0, 0}, 4);
     a = append_event(log, LOG, T, event_t);
-    CHECK(a.refusal == 0 && a.used == END);
+    CHECK(a.refusal == 0 && a.field == 0 && a.used == END);
     CHECK(memcmp(log, after, LOG) == 0);
     eventlog_record second = record_t(T);
     second.fields.record_number = 2;
@@ -642,7 +657,7 @@ static void append_numbers_after_the_last(void)
     memcpy(after + T, batch + T, T_LENGTH);
     memcpy(after + T + 8, (const uint8_t[]){0, 0, 0, 0}, 4);
     eventlog_appended a = append_event(log, END, T, event_t);
-    CHECK(a.refusal == 0 && a.used == END);
+    CHECK(a.refusal == 0 && a.field == 0 && a.used == END);
     CHECK(memcmp(log, after, LOG) == 0);
 }
 
@@ -664,9 +679,30 @@ static void append_refuses_in_order(void)
     append_refuses(__LINE__, END - 1, T, event_t, 15);
     append_refuses(__LINE__, T_LENGTH - 1, 0, event_t, 15);
     eventlog_appended a = append_event(NULL, 0, 0, event_s);
-    CHECK(a.refusal == 15 && a.used == 0);
+    CHECK(a.refusal == 15 && a.field == 0 && a.used == 0);
     a = append_event(NULL, 0, 1, event_s);
-    CHECK(a.refusal == 1 && a.used == 1);
+    CHECK(a.refusal == 1 && a.field == 0 && a.used == 1);
+}
+
+/* 14 has the field of the last record that failed, whatever else is refused. */
+static void append_says_the_field(void)
+{
+    static const struct {
+        size_t at;
+        uint8_t byte;
+        size_t field;
+    } rows[] = {{4, 0, 4}, {0, 100, 0}, {24, 3, 24}, {31, 0x40, 30}, {27, 1, 26}, {44, 77, 44}, {36, 90, 36}, {52, 95, 48}, {48, 2, 0}};
+    for (size_t i = 0; i < COUNT(rows); i++) {
+        uint8_t log[LOG], before[LOG];
+        fill(log, LOG);
+        memcpy(log, batch, END);
+        log[T + rows[i].at] = rows[i].byte;
+        memcpy(before, log, LOG);
+        eventlog_appended a = append_event(log, LOG, END, event_s);
+        CHECK(a.refusal == 14 && a.field == rows[i].field && a.used == END);
+        CHECK(a.field == eventlog_step_back(log, LOG, END).field);
+        CHECK(memcmp(log, before, LOG) == 0);
+    }
 }
 
 /* ---- fresh, read ---- */
@@ -838,11 +874,14 @@ static uint32_t refusal_of(size_t length, uint8_t strings, size_t first, size_t 
     put(out + length - 4, length);
     out[26] = strings;
     put(out + 36, 60);
-    uint32_t refusal = eventlog_refusal(out, length, 0);
-    CHECK(eventlog_step(out, length, 0).refusal == refusal);
-    CHECK(eventlog_step_back(out, length, length).refusal == refusal);
-    CHECK(eventlog_walk(out, length).refusal == refusal && eventlog_walk_back(out, length).refusal == refusal);
-    return refusal;
+    eventlog_refused x = eventlog_refusal(out, length, 0);
+    CHECK(eventlog_step(out, length, 0).refusal == x.refusal);
+    CHECK(eventlog_step_back(out, length, length).refusal == x.refusal);
+    CHECK(eventlog_walk(out, length).refusal == x.refusal && eventlog_walk_back(out, length).refusal == x.refusal);
+    /* the name that has no end: the second one, if the first has some zero bytes */
+    CHECK(x.field == (x.refusal == 9 ? 56 + (first == 0 && last == 0 ? 0 : first == 0 ? length - 60 : 2) : x.refusal == 11 ? 36 : 0));
+    CHECK(eventlog_step_back(out, length, length).field == x.field && eventlog_walk(out, length).field == x.field);
+    return x.refusal;
 }
 
 /* The first unit of Length2 is zero at these Lengths, and ends no text; a zero unit before it does. */
@@ -877,12 +916,12 @@ static void longest_record_in_a_log(void)
     e.source_name = (eventlog_bytes){ones, LONGEST - 512 - 61440 - 80};
     memcpy(log, batch + S, S_LENGTH);
     eventlog_appended a = append_event(log, LONG_END - 1, S_LENGTH, e);
-    CHECK(a.refusal == 15 && a.used == S_LENGTH);
+    CHECK(a.refusal == 15 && a.field == 0 && a.used == S_LENGTH);
     a = append_event(log, LONG_END, S_LENGTH, e);
-    CHECK(a.refusal == 0 && a.used == LONG_END);
+    CHECK(a.refusal == 0 && a.field == 0 && a.used == LONG_END);
     a = append_event(log, LONG_LOG, LONG_END, event_t);
-    CHECK(a.refusal == 0 && a.used == LONG_LOG);
-    eventlog_walked front = WALKED(3, 0, LONG_LOG), rear = WALKED(3, 0, 0);
+    CHECK(a.refusal == 0 && a.field == 0 && a.used == LONG_LOG);
+    eventlog_walked front = WALKED(3, 0, 0, LONG_LOG), rear = WALKED(3, 0, 0, 0);
     CHECK(same_walked(eventlog_walk(log, LONG_LOG), front));
     CHECK(same_walked(eventlog_walk_back(log, LONG_LOG), rear));
     eventlog_record found = eventlog_step(log, LONG_LOG, S_LENGTH).found;
@@ -923,10 +962,10 @@ static void listing_answers(void)
     } rows[] = {
         {__LINE__, END, 34, 0, "records 2\n0 64 7\n64 104 336794129\n"},
         {__LINE__, END, 33, 15, ""},
-        {__LINE__, END - 1, 16, 0, "refused 3 at 64\n"},
-        {__LINE__, END - 1, 15, 15, ""},
+        {__LINE__, END - 1, 24, 0, "refused 3 at 64 field 0\n"},
+        {__LINE__, END - 1, 23, 15, ""},
         {__LINE__, S_LENGTH, 256, 0, "records 1\n0 64 7\n"},
-        {__LINE__, 1, 15, 0, "refused 1 at 0\n"},
+        {__LINE__, 1, 23, 0, "refused 1 at 0 field 0\n"},
         {__LINE__, 0, 10, 0, "records 0\n"},
         {__LINE__, 0, 9, 15, ""},
     };
@@ -969,10 +1008,10 @@ static void events_are_taken_apart(void)
     memcpy(log, batch, S_LENGTH);
     memcpy(after, log, LOG);
     eventlog_appended a = eventlog_append_event(log, END - 1, T, &event_t);
-    CHECK(a.refusal == 15 && a.used == T);
+    CHECK(a.refusal == 15 && a.field == 0 && a.used == T);
     CHECK(memcmp(log, after, LOG) == 0);
     a = eventlog_append_event(log, END, T, &event_t);
-    CHECK(a.refusal == 0 && a.used == END);
+    CHECK(a.refusal == 0 && a.field == 0 && a.used == END);
     memcpy(after + T, batch + T, T_LENGTH);
     memcpy(after + T + 8, (const uint8_t[]){S_NUMBER + 1, 0, 0, 0}, 4);
     CHECK(memcmp(log, after, LOG) == 0);
@@ -1051,6 +1090,7 @@ int main(void)
     append_numbers();
     append_numbers_after_the_last();
     append_refuses_in_order();
+    append_says_the_field();
     read_copies();
     read_refuses();
     read_goes_on();

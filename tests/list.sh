@@ -22,7 +22,7 @@ printf 'records 2\n0 64 7\n64 104 8\n' >"$room/wanted"
 same 'two records' "$sample" "$room/wanted"
 
 head -c 167 "$sample" >"$room/input"
-printf 'refused 3 at 64\n' >"$room/wanted"
+printf 'refused 3 at 64 field 0\n' >"$room/wanted"
 same 'cut to 167 bytes' "$room/input" "$room/wanted"
 
 : >"$room/input"
@@ -39,7 +39,7 @@ for _ in $(seq 1024); do cat "$room/one"; done >"$room/input"
 same '65,536 bytes' "$room/input" "$room/wanted"
 
 printf '\0' >>"$room/input"
-printf 'refused 16 at 0\n' >"$room/wanted"
+printf 'refused 16 at 0 field 0\n' >"$room/wanted"
 same '65,537 bytes' "$room/input" "$room/wanted"
 
 # one record of 65,536 bytes, the longest that the program lists: its source name has 65,472 of them
@@ -56,10 +56,10 @@ same 'one record of 65,536 bytes' "$room/input" "$room/wanted"
 
 # Length 262,140 is more than the bytes left, Length 262,144 is no Length
 long '\0374\0377\0003\0000' >"$room/input"
-printf 'refused 3 at 0\n' >"$room/wanted"
+printf 'refused 3 at 0 field 0\n' >"$room/wanted"
 same 'Length 262,140' "$room/input" "$room/wanted"
 long '\0000\0000\0004\0000' >"$room/input"
-printf 'refused 2 at 0\n' >"$room/wanted"
+printf 'refused 2 at 0 field 0\n' >"$room/wanted"
 same 'Length 262,144' "$room/input" "$room/wanted"
 
 # a folder cannot be read: that is said on standard error, and no listing is written

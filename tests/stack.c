@@ -53,9 +53,9 @@ static void nothing(void) { kept = 0; }
 static void fresh(void) { kept = eventlog_fresh().boundary; }
 static void step(void) { kept = eventlog_step(batch, used, 0).found.length; }
 static void step_back(void) { kept = eventlog_step_back(batch, used, used).found.length; }
-static void refusal(void) { kept = eventlog_refusal(batch, used, 0); }
+static void refusal(void) { kept = eventlog_refusal(batch, used, 0).refusal; }
 static void string(void) { kept = eventlog_string(batch, used, 0, 1).at; }
-static void string_refusal(void) { kept = eventlog_string_refusal(batch, used, 0, 1); }
+static void string_refusal(void) { kept = eventlog_string_refusal(batch, used, 0, 1).refusal; }
 static void next_string(void)
 {
     eventlog_part run = eventlog_step(batch, used, 0).found.strings;

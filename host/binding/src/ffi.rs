@@ -48,9 +48,17 @@ pub(crate) struct Record {
 }
 
 #[repr(C)]
+#[derive(Clone, Copy, Debug, PartialEq, Eq)]
+pub(crate) struct Refused {
+    pub refusal: u32,
+    pub field: usize,
+}
+
+#[repr(C)]
 #[derive(Debug, PartialEq, Eq)]
 pub(crate) struct Stepped {
     pub refusal: u32,
+    pub field: usize,
     pub at: usize,
     pub found: Record,
 }
@@ -68,6 +76,7 @@ pub(crate) struct NextString {
 pub(crate) struct Walked {
     pub count: usize,
     pub refusal: u32,
+    pub field: usize,
     pub at: usize,
 }
 
@@ -82,6 +91,7 @@ pub(crate) struct Written {
 #[derive(Debug, PartialEq, Eq)]
 pub(crate) struct Appended {
     pub refusal: u32,
+    pub field: usize,
     pub used: usize,
 }
 
@@ -105,18 +115,19 @@ pub(crate) struct Answer {
 const _: () = {
     assert!(size_of::<Fields>() == 24 && size_of::<Unnumbered>() == 20);
     assert!(size_of::<Part>() == 16 && size_of::<Record>() == 120);
-    assert!(size_of::<Stepped>() == 136 && size_of::<NextString>() == 32);
-    assert!(size_of::<Walked>() == 24);
-    assert!(size_of::<Written>() == 16 && size_of::<Appended>() == 16);
+    assert!(size_of::<Refused>() == 16);
+    assert!(size_of::<Stepped>() == 144 && size_of::<NextString>() == 32);
+    assert!(size_of::<Walked>() == 32);
+    assert!(size_of::<Written>() == 16 && size_of::<Appended>() == 24);
     assert!(size_of::<Handle>() == 16 && size_of::<Answer>() == 40);
 };
 
 unsafe extern "C" {
     fn eventlog_step(buffer: *const u8, buffer_len: usize, at: usize) -> Stepped;
     fn eventlog_step_back(buffer: *const u8, buffer_len: usize, end: usize) -> Stepped;
-    fn eventlog_refusal(buffer: *const u8, buffer_len: usize, at: usize) -> u32;
+    fn eventlog_refusal(buffer: *const u8, buffer_len: usize, at: usize) -> Refused;
     fn eventlog_string(buffer: *const u8, buffer_len: usize, at: usize, k: u32) -> Part;
-    fn eventlog_string_refusal(buffer: *const u8, buffer_len: usize, at: usize, k: u32) -> u32;
+    fn eventlog_string_refusal(buffer: *const u8, buffer_len: usize, at: usize, k: u32) -> Refused;
     fn eventlog_next_string(
         buffer: *const u8,
         buffer_len: usize,
@@ -185,7 +196,7 @@ pub(crate) fn step_back(buffer: &[u8], end: usize) -> Stepped {
     unsafe { eventlog_step_back(buffer.as_ptr(), buffer.len(), end) }
 }
 
-pub(crate) fn refusal(buffer: &[u8], at: usize) -> u32 {
+pub(crate) fn refusal(buffer: &[u8], at: usize) -> Refused {
     // SAFETY: as in `step`.
     unsafe { eventlog_refusal(buffer.as_ptr(), buffer.len(), at) }
 }
@@ -195,7 +206,7 @@ pub(crate) fn string(buffer: &[u8], at: usize, k: u32) -> Part {
     unsafe { eventlog_string(buffer.as_ptr(), buffer.len(), at, k) }
 }
 
-pub(crate) fn string_refusal(buffer: &[u8], at: usize, k: u32) -> u32 {
+pub(crate) fn string_refusal(buffer: &[u8], at: usize, k: u32) -> Refused {
     // SAFETY: as in `string`.
     unsafe { eventlog_string_refusal(buffer.as_ptr(), buffer.len(), at, k) }
 }
@@ -359,23 +370,23 @@ mod tests {
     }
 
     /// Bytes with each refusal of the reader, the same from the front and from
-    /// the rear.
-    fn refused_records() -> [(u32, Vec<u8>); 13] {
+    /// the rear, and its field, from the front and from the rear.
+    fn refused_records() -> [(u32, [usize; 2], Vec<u8>); 13] {
         let no_zero_unit: Vec<(usize, u8)> = (56..LENGTH - 4).map(|at| (at, 1)).collect();
         [
-            (1, vec![]),
-            (2, changed(&[(0, 60), (LENGTH - 4, 60)])),
-            (3, changed(&[(0, 200), (LENGTH - 4, 200)])),
-            (4, changed(&[(4, 0)])),
-            (5, changed(&[(0, 100)])),
-            (6, changed(&[(24, 3)])),
-            (7, changed(&[(31, 0x40)])),
-            (8, changed(&[(27, 1)])),
-            (9, changed(&no_zero_unit)),
-            (10, changed(&[(44, 77)])),
-            (11, changed(&[(36, 90)])),
-            (12, changed(&[(52, 95)])),
-            (13, changed(&[(48, 2)])),
+            (1, [0, 0], vec![]),
+            (2, [0, 0], changed(&[(0, 60), (LENGTH - 4, 60)])),
+            (3, [0, 0], changed(&[(0, 200), (LENGTH - 4, 200)])),
+            (4, [4, 4], changed(&[(4, 0)])),
+            (5, [96, 0], changed(&[(0, 100)])),
+            (6, [24, 24], changed(&[(24, 3)])),
+            (7, [30, 30], changed(&[(31, 0x40)])),
+            (8, [26, 26], changed(&[(27, 1)])),
+            (9, [56, 56], changed(&no_zero_unit)),
+            (10, [44, 44], changed(&[(44, 77)])),
+            (11, [36, 36], changed(&[(36, 90)])),
+            (12, [48, 48], changed(&[(52, 95)])),
+            (13, [0, 0], changed(&[(48, 2)])),
         ]
     }
 
@@ -411,24 +422,31 @@ mod tests {
         let s = behind_8(&record());
         let end = 8 + LENGTH;
         for (stepped, at) in [(step(&s, 8), 8), (step_back(&s, end), end)] {
-            let Stepped { refusal, found, .. } = stepped;
-            assert_eq!((refusal, stepped.at), (0, at));
+            let Stepped { refusal, field, .. } = stepped;
+            assert_eq!((refusal, field, stepped.at), (0, 0, at));
+            let found = stepped.found;
             assert_eq!((found.start, found.length), (8, LENGTH));
         }
     }
 
     #[test]
     fn refused_steps_find_nothing() {
-        for (refusal, record) in refused_records() {
+        for (number, [front, rear], record) in refused_records() {
             let s = behind_8(&record);
-            let nothing = |at| Stepped {
-                refusal,
+            let nothing = |field, at| Stepped {
+                refusal: number,
+                field,
                 at,
                 found: Record::default(),
             };
-            assert_eq!(step(&s, 8), nothing(8));
-            assert_eq!(step_back(&s, s.len()), nothing(s.len()));
-            assert_eq!(string_refusal(&s, 8, 0), refusal);
+            assert_eq!(step(&s, 8), nothing(front, 8));
+            assert_eq!(step_back(&s, s.len()), nothing(rear, s.len()));
+            let refused = Refused {
+                refusal: number,
+                field: front,
+            };
+            assert_eq!(refusal(&s, 8), refused);
+            assert_eq!(string_refusal(&s, 8, 0), refused);
             assert_eq!(string(&s, 8, 0), Part::default());
         }
     }
@@ -438,7 +456,11 @@ mod tests {
         let s = behind_8(&record());
         assert_eq!(string(&s, 8, 0), Part { at: 96, len: 4 });
         for k in [1, 256, u32::MAX] {
-            assert_eq!(string_refusal(&s, 8, k), 17);
+            let none = Refused {
+                refusal: 17,
+                field: 0,
+            };
+            assert_eq!(string_refusal(&s, 8, k), none);
             assert_eq!(string(&s, 8, k), Part::default());
         }
     }
@@ -469,14 +491,19 @@ mod tests {
     #[test]
     fn walks_answer_where_they_stopped() {
         let s = [record(), record()].concat();
-        let walked = |count, refusal, at| Walked { count, refusal, at };
-        assert_eq!(walk(&s), walked(2, 0, s.len()));
-        assert_eq!(walk_back(&s), walked(2, 0, 0));
-        for (refusal, record) in refused_records().into_iter().skip(1) {
+        let walked = |count, refusal, field, at| Walked {
+            count,
+            refusal,
+            field,
+            at,
+        };
+        assert_eq!(walk(&s), walked(2, 0, 0, s.len()));
+        assert_eq!(walk_back(&s), walked(2, 0, 0, 0));
+        for (refusal, [front, rear], record) in refused_records().into_iter().skip(1) {
             let behind = [&s, &record[..]].concat();
-            assert_eq!(walk(&behind), walked(2, refusal, s.len()));
+            assert_eq!(walk(&behind), walked(2, refusal, front, s.len()));
             let before = [&record[..], &s].concat();
-            assert_eq!(walk_back(&before), walked(2, refusal, LENGTH));
+            assert_eq!(walk_back(&before), walked(2, refusal, rear, LENGTH));
         }
     }
 
@@ -506,14 +533,38 @@ mod tests {
             (14, LENGTH + 1),
             (15, LENGTH),
         ] {
-            assert_eq!(append(&mut log, used, &EVENT), Appended { refusal, used });
+            let field = 0;
+            let refused = Appended {
+                refusal,
+                field,
+                used,
+            };
+            assert_eq!(append(&mut log, used, &EVENT), refused);
         }
         for (refusal, event) in refused_events() {
             for used in [0, LENGTH] {
-                assert_eq!(append(&mut log, used, &event), Appended { refusal, used });
+                let refused = Appended {
+                    refusal,
+                    field: 0,
+                    used,
+                };
+                assert_eq!(append(&mut log, used, &event), refused);
             }
         }
         assert_eq!(log, old);
+    }
+
+    #[test]
+    fn appends_behind_a_bad_record_have_its_field() {
+        for (_, [_, field], record) in refused_records().into_iter().skip(1) {
+            let used = record.len();
+            let refused = Appended {
+                refusal: 14,
+                field,
+                used,
+            };
+            assert_eq!(append(&mut record.clone(), used, &EVENT), refused);
+        }
     }
 
     #[test]

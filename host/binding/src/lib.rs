@@ -54,7 +54,7 @@ pub use constants::{
 };
 pub use read::{Batch, Direction, Handle, Place, ReadError, ReadKind, Status};
 pub use record::{BadRecord, Places, Record, refusal, step, step_back, string, string_refusal};
-pub use refusal::Refusal;
+pub use refusal::{Refusal, Refused};
 pub use text::{Run, Strings, Text, Units, next_string};
 #[doc(hidden)]
 pub use text::{utf16_bytes, utf16_len};

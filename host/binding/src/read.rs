@@ -207,7 +207,7 @@ impl<'o> Batch<'o> {
 /// assert_eq!(error.handle, Handle::fresh());
 /// let text = "status 0xC0000023: the next record is longer than the size asked";
 /// assert_eq!(error.to_string(), text);
-/// # Ok::<(), eventlog::Refusal>(())
+/// # Ok::<(), eventlog::Refused>(())
 /// ```
 #[non_exhaustive]
 #[derive(Debug, PartialEq, Eq)]

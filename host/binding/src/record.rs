@@ -4,7 +4,7 @@ use core::error::Error;
 use core::fmt;
 
 use crate::ffi::{self, Part, Stepped};
-use crate::refusal::Refusal;
+use crate::refusal::{Refusal, Refused};
 use crate::text::{Strings, Text};
 use crate::write::Event;
 
@@ -66,15 +66,15 @@ pub struct Places {
     pub event_data: usize,
 }
 
-/// Why no record was read, and the place that was asked for: the start in
-/// [`step`], the end in [`step_back`].
+/// Why no record was read, the field that failed, and the place that was asked
+/// for: the start in [`step`], the end in [`step_back`].
 ///
 /// ```
 /// use eventlog::{step, Refusal};
 ///
 /// let refused = step(&[0; 64], 1).unwrap_err();
 /// assert_eq!((refused.refusal, refused.at), (Refusal::Place, 1));
-/// let text = "refused 1 at 1: the place is past the end, or too few bytes stand there";
+/// let text = "refused 1 at 1, field 0: the place is past the end, or too few bytes stand there";
 /// assert_eq!(refused.to_string(), text);
 /// ```
 #[non_exhaustive]
@@ -82,14 +82,18 @@ pub struct Places {
 pub struct BadRecord {
     /// One of the reader's, numbers 1 to 13.
     pub refusal: Refusal,
+    /// The place of the field that failed, counted from the record's start; 0
+    /// where no field did.
+    pub field: usize,
     /// The place asked for.
     pub at: usize,
 }
 
 impl fmt::Display for BadRecord {
     fn fmt(&self, f: &mut fmt::Formatter<'_>) -> fmt::Result {
-        let BadRecord { refusal, at } = self;
-        write!(f, "refused {} at {at}: {refusal}", refusal.number())
+        let BadRecord { refusal, field, at } = self;
+        let number = refusal.number();
+        write!(f, "refused {number} at {at}, field {field}: {refusal}")
     }
 }
 
@@ -182,12 +186,13 @@ pub fn step_back(buffer: &[u8], end: usize) -> Result<Record<'_>, BadRecord> {
 /// let mut buffer = [0; 64];
 /// write(7, &Event::default(), &mut buffer)?;
 /// assert_eq!(refusal(&buffer, 0), None);
-/// assert_eq!(refusal(&buffer[..63], 0), Some(Refusal::Place));
+/// assert_eq!(refusal(&buffer[..63], 0).unwrap().refusal, Refusal::Place);
 /// # Ok::<(), eventlog::Refusal>(())
 /// ```
 #[must_use]
-pub fn refusal(buffer: &[u8], at: usize) -> Option<Refusal> {
-    Refusal::from_number(ffi::refusal(buffer, at))
+pub fn refusal(buffer: &[u8], at: usize) -> Option<Refused> {
+    let refused = ffi::refusal(buffer, at);
+    Refused::from_numbers(refused.refusal, refused.field)
 }
 
 /// String `k`, counted from 0, of the record that starts at `at`, without its
@@ -205,12 +210,12 @@ pub fn refusal(buffer: &[u8], at: usize) -> Option<Refusal> {
 /// let mut buffer = [0; 100];
 /// write(7, &event, &mut buffer)?;
 /// assert_eq!(string(&buffer, 0, 0)?, "OK");
-/// assert_eq!(string(&buffer, 0, 1), Err(Refusal::NoString));
-/// assert_eq!(string(&buffer, 1, 0), Err(Refusal::Length));
-/// # Ok::<(), Refusal>(())
+/// assert_eq!(string(&buffer, 0, 1).unwrap_err().refusal, Refusal::NoString);
+/// assert_eq!(string(&buffer, 1, 0).unwrap_err().refusal, Refusal::Length);
+/// # Ok::<(), Box<dyn std::error::Error>>(())
 /// ```
-pub fn string(buffer: &[u8], at: usize, k: u32) -> Result<Text<'_>, Refusal> {
-    Refusal::unless(ffi::string_refusal(buffer, at, k), ())?;
+pub fn string(buffer: &[u8], at: usize, k: u32) -> Result<Text<'_>, Refused> {
+    string_refusal(buffer, at, k).map_or(Ok(()), Err)?;
     Ok(Text::new(slice(buffer, ffi::string(buffer, at, k))))
 }
 
@@ -218,16 +223,26 @@ pub fn string(buffer: &[u8], at: usize, k: u32) -> Result<Text<'_>, Refusal> {
 ///
 /// ```
 /// use eventlog::{string_refusal, Refusal};
-/// assert_eq!(string_refusal(&[], 0, 0), Some(Refusal::Place));
+/// assert_eq!(string_refusal(&[], 0, 0).unwrap().refusal, Refusal::Place);
 /// ```
 #[must_use]
-pub fn string_refusal(buffer: &[u8], at: usize, k: u32) -> Option<Refusal> {
-    Refusal::from_number(ffi::string_refusal(buffer, at, k))
+pub fn string_refusal(buffer: &[u8], at: usize, k: u32) -> Option<Refused> {
+    let refused = ffi::string_refusal(buffer, at, k);
+    Refused::from_numbers(refused.refusal, refused.field)
 }
 
 fn record<'a>(buffer: &'a [u8], stepped: &Stepped) -> Result<Record<'a>, BadRecord> {
-    let Stepped { refusal, at, found } = stepped;
-    Refusal::unless(*refusal, ()).map_err(|refusal| BadRecord { refusal, at: *at })?;
+    let Stepped {
+        refusal,
+        field,
+        at,
+        ref found,
+    } = *stepped;
+    Refused::unless(refusal, field, ()).map_err(|Refused { refusal, field }| BadRecord {
+        refusal,
+        field,
+        at,
+    })?;
     let fields = found.fields;
     Ok(Record {
         start: found.start,

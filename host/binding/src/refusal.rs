@@ -9,8 +9,8 @@ use core::fmt;
 /// ```
 /// use eventlog::{refusal, Refusal};
 ///
-/// let refused = refusal(&[], 0);
-/// assert_eq!(refused, Some(Refusal::Place));
+/// let refused = refusal(&[], 0).unwrap();
+/// assert_eq!(refused.refusal, Refusal::Place);
 /// assert_eq!(Refusal::Length2.to_string(), "Length and Length2 differ");
 /// ```
 #[non_exhaustive]
@@ -117,6 +117,50 @@ impl fmt::Display for Refusal {
 }
 
 impl Error for Refusal {}
+
+/// A refusal of a record, and the field that failed.
+///
+/// ```
+/// use eventlog::{refusal, write, Event};
+///
+/// let mut record = [0; 64];
+/// write(7, &Event::default(), &mut record)?;
+/// record[24] = 3;
+/// let refused = refusal(&record, 0).unwrap();
+/// assert_eq!(refused.field, 24);
+/// assert_eq!(refused.to_string(), "refused 6, field 24: the event type is none of the six");
+/// # Ok::<(), eventlog::Refusal>(())
+/// ```
+#[non_exhaustive]
+#[derive(Clone, Copy, Debug, PartialEq, Eq, Hash)]
+pub struct Refused {
+    /// Why.
+    pub refusal: Refusal,
+    /// The place of the field that failed, counted from the record's start; 0
+    /// where no field did.
+    pub field: usize,
+}
+
+impl Refused {
+    /// The refusal with the library's number and field, `None` for number 0.
+    pub(crate) fn from_numbers(number: u32, field: usize) -> Option<Self> {
+        Refusal::from_number(number).map(|refusal| Refused { refusal, field })
+    }
+
+    /// The answer, unless the library's number is a refusal's.
+    pub(crate) fn unless<T>(number: u32, field: usize, answer: T) -> Result<T, Self> {
+        Refused::from_numbers(number, field).map_or(Ok(answer), Err)
+    }
+}
+
+impl fmt::Display for Refused {
+    fn fmt(&self, f: &mut fmt::Formatter<'_>) -> fmt::Result {
+        let Refused { refusal, field } = self;
+        write!(f, "refused {}, field {field}: {refusal}", refusal.number())
+    }
+}
+
+impl Error for Refused {}
 
 #[cfg(test)]
 mod tests {

@@ -7,7 +7,7 @@ use core::iter::FusedIterator;
 use crate::constants::MIN_LENGTH;
 use crate::ffi::{self, Walked};
 use crate::record::{BadRecord, Record, step, step_back};
-use crate::refusal::Refusal;
+use crate::refusal::{Refusal, Refused};
 
 /// Why a walk stopped before the batch was used up.
 ///
@@ -16,7 +16,7 @@ use crate::refusal::Refusal;
 ///
 /// let stopped = walk(&[0; 64]).unwrap_err();
 /// assert_eq!((stopped.count, stopped.refusal, stopped.at), (0, Refusal::Length, 0));
-/// let text = "refused 2 at 0 after 0 records: Length is out of range or not a multiple of 4";
+/// let text = "refused 2 at 0, field 0, after 0 records: Length is out of range or not a multiple of 4";
 /// assert_eq!(stopped.to_string(), text);
 /// ```
 #[non_exhaustive]
@@ -26,17 +26,24 @@ pub struct StoppedWalk {
     pub count: usize,
     /// The refusal of the record that stopped it.
     pub refusal: Refusal,
+    /// The place of the field that failed, counted from that record's start.
+    pub field: usize,
     /// Where that record starts; in a walk from the rear, where it ends.
     pub at: usize,
 }
 
 impl fmt::Display for StoppedWalk {
     fn fmt(&self, f: &mut fmt::Formatter<'_>) -> fmt::Result {
-        let StoppedWalk { count, refusal, at } = self;
+        let StoppedWalk {
+            count,
+            refusal,
+            field,
+            at,
+        } = self;
+        let number = refusal.number();
         write!(
             f,
-            "refused {} at {at} after {count} records: {refusal}",
-            refusal.number()
+            "refused {number} at {at}, field {field}, after {count} records: {refusal}"
         )
     }
 }
@@ -86,8 +93,18 @@ pub fn walk_back(buffer: &[u8]) -> Result<usize, StoppedWalk> {
 }
 
 fn counted(walked: &Walked) -> Result<usize, StoppedWalk> {
-    let Walked { count, refusal, at } = *walked;
-    Refusal::unless(refusal, count).map_err(|refusal| StoppedWalk { count, refusal, at })
+    let Walked {
+        count,
+        refusal,
+        field,
+        at,
+    } = *walked;
+    Refused::unless(refusal, field, count).map_err(|Refused { refusal, field }| StoppedWalk {
+        count,
+        refusal,
+        field,
+        at,
+    })
 }
 
 /// The records of a batch, from the front.
@@ -153,7 +170,7 @@ pub fn records_back(buffer: &[u8]) -> RecordsBack<'_> {
 /// assert!(records.next().is_some_and(|record| record.is_ok()));
 /// assert!(records.next().is_some_and(|record| record.is_err()));
 /// assert_eq!(records.next(), None);
-/// # Ok::<(), eventlog::Refusal>(())
+/// # Ok::<(), eventlog::Refused>(())
 /// ```
 #[derive(Clone, Debug)]
 #[must_use = "an iterator does nothing until it is asked for items"]
@@ -175,7 +192,7 @@ impl Records<'_> {
     /// let mut records = records(&log);
     /// records.by_ref().for_each(drop);
     /// assert_eq!(records.place(), used);
-    /// # Ok::<(), eventlog::Refusal>(())
+    /// # Ok::<(), eventlog::Refused>(())
     /// ```
     #[must_use]
     pub fn place(&self) -> usize {
@@ -216,7 +233,7 @@ impl FusedIterator for Records<'_> {}
 /// let mut records = records_back(&log[..used]);
 /// assert!(records.next().is_some_and(|record| record.is_ok()));
 /// assert_eq!(records.next(), None);
-/// # Ok::<(), eventlog::Refusal>(())
+/// # Ok::<(), eventlog::Refused>(())
 /// ```
 #[derive(Clone, Debug)]
 #[must_use = "an iterator does nothing until it is asked for items"]
@@ -239,7 +256,7 @@ impl RecordsBack<'_> {
     /// assert_eq!(records.place(), used);
     /// records.by_ref().for_each(drop);
     /// assert_eq!(records.place(), 0);
-    /// # Ok::<(), eventlog::Refusal>(())
+    /// # Ok::<(), eventlog::Refused>(())
     /// ```
     #[must_use]
     pub fn place(&self) -> usize {

@@ -1,7 +1,7 @@
 //! Writing a record, appending one to a log, and the listing's text.
 
 use crate::ffi;
-use crate::refusal::Refusal;
+use crate::refusal::{Refusal, Refused};
 use crate::text::Text;
 
 /// All that a record holds but its number, and all that appending takes but the
@@ -82,8 +82,9 @@ pub fn write(record_number: u32, event: &Event<'_>, out: &mut [u8]) -> Result<us
 /// # Errors
 ///
 /// [`Refusal::Place`] where `used` is more than the buffer,
-/// [`Refusal::LogEnd`] where no good record ends there; then as [`write()`],
-/// into the rest of the buffer. Then `log` is left as it was.
+/// [`Refusal::LogEnd`] where no good record ends there, with the field of that
+/// record that failed; then as [`write()`], into the rest of the buffer. Then
+/// `log` is left as it was.
 ///
 /// ```
 /// use eventlog::{append, step_back, Event, Refusal};
@@ -92,17 +93,19 @@ pub fn write(record_number: u32, event: &Event<'_>, out: &mut [u8]) -> Result<us
 /// let used = append(&mut log, 0, &Event::default())?;
 /// let used = append(&mut log, used, &Event::default())?;
 /// assert_eq!(step_back(&log, used)?.record_number, 2);
-/// assert_eq!(append(&mut log, used, &Event::default()), Err(Refusal::Output));
+/// let full = append(&mut log, used, &Event::default()).unwrap_err();
+/// assert_eq!(full.refusal, Refusal::Output);
 /// # Ok::<(), Box<dyn std::error::Error>>(())
 /// ```
-pub fn append(log: &mut [u8], used: usize, event: &Event<'_>) -> Result<usize, Refusal> {
+pub fn append(log: &mut [u8], used: usize, event: &Event<'_>) -> Result<usize, Refused> {
     let appended = ffi::append(log, used, event);
-    Refusal::unless(appended.refusal, appended.used)
+    Refused::unless(appended.refusal, appended.field, appended.used)
 }
 
 /// Writes the listing of a batch at the start of `out` and returns its text: a
 /// line for the number of records and one for each of them, with its start,
-/// Length and number; or only a line that tells the refusal and its place.
+/// Length and number; or only a line that tells the refusal, its place and the
+/// field that failed.
 ///
 /// # Errors
 ///
@@ -116,7 +119,7 @@ pub fn append(log: &mut [u8], used: usize, event: &Event<'_>) -> Result<usize, R
 /// let (mut batch, mut out) = ([0; 64], [0; 128]);
 /// write(7, &Event::default(), &mut batch)?;
 /// assert_eq!(listing(&batch, &mut out)?, "records 1\n0 64 7\n");
-/// assert_eq!(listing(&batch[..63], &mut out)?, "refused 1 at 0\n");
+/// assert_eq!(listing(&batch[..63], &mut out)?, "refused 1 at 0 field 0\n");
 /// assert_eq!(listing(&batch, &mut out[..17])?, "records 1\n0 64 7\n");
 /// assert_eq!(listing(&batch, &mut out[..16]), Err(Refusal::Output));
 /// # Ok::<(), Refusal>(())

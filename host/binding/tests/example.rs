@@ -29,6 +29,6 @@ fn tells_what_is_refused() {
     let mut log = read("scale.log");
     log.pop();
     let error = records::run(log, &mut Vec::new()).unwrap_err();
-    let text = "refused 3 at 212: Length is more than the bytes left";
+    let text = "refused 3 at 212, field 0: Length is more than the bytes left";
     assert_eq!(error.to_string(), text);
 }

@@ -28,6 +28,16 @@ fn put(bytes: &[u8], at: usize, value: u8) -> Vec<u8> {
     changed
 }
 
+/// What may be refused, number and field.
+fn told(refused: Option<Refused>) -> Option<(Refusal, usize)> {
+    refused.map(|why| (why.refusal, why.field))
+}
+
+/// The refusal of a call alone.
+fn why<T>(answer: Result<T, Refused>) -> Result<T, Refusal> {
+    answer.map_err(|why| why.refusal)
+}
+
 /// Refusal and place of a step.
 fn refused(answer: Result<Record, BadRecord>) -> (Refusal, usize) {
     let bad = answer.expect_err("the record is refused");
@@ -64,12 +74,12 @@ fn read() {
 fn strings() {
     let log = s_t();
     assert_eq!(string(&log, 64, 0), Ok(Text::new(OK)));
-    assert_eq!(string(&log, 64, 1), Err(Refusal::NoString));
-    assert_eq!(string(&log, 0, 0), Err(Refusal::NoString));
-    assert_eq!(string(&log, 1, 0), Err(Refusal::Length));
+    assert_eq!(why(string(&log, 64, 1)), Err(Refusal::NoString));
+    assert_eq!(why(string(&log, 0, 0)), Err(Refusal::NoString));
+    assert_eq!(why(string(&log, 1, 0)), Err(Refusal::Length));
     assert_eq!(string_refusal(&log, 64, 0), None);
     let none = string_refusal(&log, 64, u32::MAX);
-    assert_eq!(none.map(Refusal::number), Some(17));
+    assert_eq!(told(none), Some((Refusal::NoString, 0)));
 
     let [s, t] = [0, 64].map(|at| step(&log, at).unwrap());
     assert!(t.strings().eq(["OK"]) && s.strings().next().is_none());
@@ -81,25 +91,26 @@ fn strings() {
 
 #[test]
 fn refusals() {
-    for (number, why, bytes) in [
-        (1, Refusal::Place, vec![]),
-        (1, Refusal::Place, S[..63].to_vec()),
-        (2, Refusal::Length, put(&S, 0, 60)),
-        (3, Refusal::CutShort, T[..103].to_vec()),
-        (4, Refusal::Signature, put(&T, 4, 0)),
-        (5, Refusal::Length2, put(&T, 100, 100)),
-        (6, Refusal::EventType, put(&T, 24, 3)),
-        (6, Refusal::EventType, put(&T, 24, 32)),
-        (7, Refusal::Flags, put(&T, 31, 0x40)),
-        (8, Refusal::StringCount, put(&put(&T, 26, 1), 27, 1)),
-        (9, Refusal::Name, put(&S, 56, 1)),
-        (10, Refusal::Sid, put(&T, 44, 77)),
-        (11, Refusal::Strings, put(&T, 36, 90)),
-        (12, Refusal::Data, put(&T, 52, 95)),
-        (13, Refusal::Size, put(&T, 48, 2)),
+    for (number, field, why, bytes) in [
+        (1, 0, Refusal::Place, vec![]),
+        (1, 0, Refusal::Place, S[..63].to_vec()),
+        (2, 0, Refusal::Length, put(&S, 0, 60)),
+        (3, 0, Refusal::CutShort, T[..103].to_vec()),
+        (4, 4, Refusal::Signature, put(&T, 4, 0)),
+        (5, 100, Refusal::Length2, put(&T, 100, 100)),
+        (6, 24, Refusal::EventType, put(&T, 24, 3)),
+        (6, 24, Refusal::EventType, put(&T, 24, 32)),
+        (7, 30, Refusal::Flags, put(&T, 31, 0x40)),
+        (8, 26, Refusal::StringCount, put(&put(&T, 26, 1), 27, 1)),
+        (9, 60, Refusal::Name, put(&S, 56, 1)),
+        (10, 44, Refusal::Sid, put(&T, 44, 77)),
+        (11, 36, Refusal::Strings, put(&T, 36, 90)),
+        (12, 48, Refusal::Data, put(&T, 52, 95)),
+        (13, 0, Refusal::Size, put(&T, 48, 2)),
     ] {
         assert_eq!(refused(step(&bytes, 0)), (why, 0));
-        assert_eq!(refusal(&bytes, 0), Some(why));
+        assert_eq!(told(refusal(&bytes, 0)), Some((why, field)));
+        assert_eq!(step(&bytes, 0).unwrap_err().field, field);
         assert_eq!(why.number(), number);
     }
     assert_eq!(refusal(&put(&T, 24, 16), 0), None);
@@ -116,11 +127,11 @@ fn walked_and_listed() {
     assert_eq!((walk(&log), walk_back(&log)), (Ok(2), Ok(2)));
     assert_eq!((walk(&[]), walk_back(&[])), (Ok(0), Ok(0)));
     let stopped = walk(&log[..167]).unwrap_err();
-    let why = (stopped.count, stopped.refusal, stopped.at);
-    assert_eq!(why, (1, Refusal::CutShort, 64));
+    let why = (stopped.count, stopped.refusal, stopped.field, stopped.at);
+    assert_eq!(why, (1, Refusal::CutShort, 0, 64));
     let stopped = walk_back(&log[1..]).unwrap_err();
-    let why = (stopped.count, stopped.refusal, stopped.at);
-    assert_eq!(why, (1, Refusal::Place, 63));
+    let why = (stopped.count, stopped.refusal, stopped.field, stopped.at);
+    assert_eq!(why, (1, Refusal::Place, 0, 63));
 
     let text = |s: &[u8]| {
         let mut out = vec![b'x'; s.len() + 64];
@@ -129,7 +140,7 @@ fn walked_and_listed() {
         text
     };
     assert_eq!(text(&log), "records 2\n0 64 7\n64 104 8\n");
-    assert_eq!(text(&log[..167]), "refused 3 at 64\n");
+    assert_eq!(text(&log[..167]), "refused 3 at 64 field 0\n");
     assert_eq!(text(&[]), "records 0\n");
     assert_eq!(listing(&log, &mut [0; 26]).map(str::len), Ok(26));
     assert_eq!(listing(&log, &mut [0; 25]), Err(Refusal::Output));
@@ -204,9 +215,9 @@ fn written_and_appended() {
     log[..64].copy_from_slice(&S);
     assert_eq!(append(&mut log, 64, &t_event()), Ok(168));
     assert_eq!(log[..168], s_t());
-    assert_eq!(append(&mut log, 168, &t_event()), Err(Refusal::Output));
-    assert_eq!(append(&mut log, 167, &t_event()), Err(Refusal::LogEnd));
-    assert_eq!(append(&mut log, 201, &t_event()), Err(Refusal::Place));
+    assert_eq!(why(append(&mut log, 168, &t_event())), Err(Refusal::Output));
+    assert_eq!(why(append(&mut log, 167, &t_event())), Err(Refusal::LogEnd));
+    assert_eq!(why(append(&mut log, 201, &t_event())), Err(Refusal::Place));
     assert_eq!(append(&mut log, 0, &Event::default()), Ok(64));
     assert_eq!(step(&log, 0).unwrap().record_number, 1);
 }
@@ -331,11 +342,14 @@ fn statuses() {
 
 #[test]
 fn types_and_flags() {
-    assert_eq!(refusal(&put(&T, 24, 32), 0), Some(Refusal::EventType));
+    let both = told(refusal(&put(&T, 24, 32), 0));
+    assert_eq!(both, Some((Refusal::EventType, 24)));
     assert_eq!(refusal(&put(&T, 24, 16), 0), None);
-    assert_eq!(refusal(&put(&S, 0, 60), 0), Some(Refusal::Length));
+    let both = told(refusal(&put(&S, 0, 60), 0));
+    assert_eq!(both, Some((Refusal::Length, 0)));
     assert_eq!(refusal(&put(&T, 31, 0x80), 0), None);
-    assert_eq!(refusal(&put(&T, 31, 0x40), 0), Some(Refusal::Flags));
+    let both = told(refusal(&put(&T, 31, 0x40), 0));
+    assert_eq!(both, Some((Refusal::Flags, 30)));
 }
 
 #[test]
@@ -355,7 +369,8 @@ fn most_strings() {
     assert_eq!(step(&record, 0).unwrap().strings().count(), 256);
     let one_more = with_strings(257, &mut [0; 1000]);
     assert_eq!(one_more, Err(Refusal::StringCount));
-    assert_eq!(refusal(&put(&record, 26, 1), 0), Some(Refusal::StringCount));
+    let both = told(refusal(&put(&record, 26, 1), 0));
+    assert_eq!(both, Some((Refusal::StringCount, 26)));
 }
 
 #[test]
@@ -376,7 +391,7 @@ fn longest_record() {
     assert_eq!(of_length(100_320, &mut record), Err(Refusal::Length));
     record[..4].copy_from_slice(&262_144u32.to_le_bytes());
     record[262_140..].copy_from_slice(&262_144u32.to_le_bytes());
-    assert_eq!(refusal(&record, 0), Some(Refusal::Length));
+    assert_eq!(told(refusal(&record, 0)), Some((Refusal::Length, 0)));
     let back = refused(step_back(&record, 262_144));
     assert_eq!(back, (Refusal::Length, 262_144));
 }
@@ -437,14 +452,14 @@ fn longest_record_of_every_part() {
     for k in [0, 128, 255] {
         assert_eq!(string(&record, 0, k), Ok(Text::new(&strings[k as usize])));
     }
-    assert_eq!(string(&record, 0, 256), Err(Refusal::NoString));
+    assert_eq!(why(string(&record, 0, 256)), Err(Refusal::NoString));
 
     // In a log: between S and T, walked and served from both ends.
     let end = 64 + MAX_LENGTH;
     let mut log = vec![0; end + 104];
     log[..64].copy_from_slice(&S);
     let short = append(&mut log[..end - 1], 64, &event);
-    assert_eq!(short, Err(Refusal::Output));
+    assert_eq!(why(short), Err(Refusal::Output));
     assert_eq!(append(&mut log, 64, &event), Ok(end));
     assert_eq!(log[64..end], record);
     assert_eq!(append(&mut log, end, &t_event()), Ok(end + 104));
@@ -507,19 +522,19 @@ fn texts_that_run_up_to_length2() {
             record[..4].copy_from_slice(&said.to_le_bytes());
             (record[26], record[36]) = (num_strings, 60);
             assert_eq!(record[length - 4..length - 2], [0, 0]);
-            let front = refusal(&record, 0);
-            let back = step_back(&record, length).err().map(|bad| bad.refusal);
-            assert_eq!(front, back);
+            let front = told(refusal(&record, 0));
+            let back = step_back(&record, length).err();
+            assert_eq!(front, back.map(|bad| (bad.refusal, bad.field)));
             front
         };
-        assert_eq!(of(0, 0, 0), Some(Refusal::Name));
-        assert_eq!(of(0, 0, 2), Some(Refusal::Name));
+        assert_eq!(of(0, 0, 0), Some((Refusal::Name, 56)));
+        assert_eq!(of(0, 0, 2), Some((Refusal::Name, length - 4)));
         assert_eq!(of(0, 0, 4), None);
-        assert_eq!(of(2, 0, 0), Some(Refusal::Name));
+        assert_eq!(of(2, 0, 0), Some((Refusal::Name, 58)));
         assert_eq!(of(2, 0, 2), None);
-        assert_eq!(of(4, 1, 0), Some(Refusal::Strings));
+        assert_eq!(of(4, 1, 0), Some((Refusal::Strings, 36)));
         assert_eq!(of(4, 1, 2), None);
-        assert_eq!(of(4, 2, 2), Some(Refusal::Strings));
+        assert_eq!(of(4, 2, 2), Some((Refusal::Strings, 36)));
         assert_eq!(of(4, 2, 4), None);
     }
 }

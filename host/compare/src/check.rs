@@ -8,7 +8,7 @@ use std::ops::{Range, RangeInclusive};
 use std::path::Path;
 use std::process::{Command, Output, Stdio};
 
-use eventlog::{Direction, ReadKind, Refusal, Run, Text};
+use eventlog::{Direction, ReadKind, Refusal, Refused, Run, Text};
 
 use crate::make::{get, Made, MAX_LENGTH, TOO_LONG};
 
@@ -238,10 +238,11 @@ struct Seen {
     event_data: Location,
 }
 
-type Answered = Result<Seen, (u32, usize)>;
+/// A refusal is its number, its field and the place.
+type Answered = Result<Seen, (u32, usize, usize)>;
 
 fn seen_proved(s: &[u8], answer: Result<eventlog::Record, eventlog::BadRecord>) -> Answered {
-    let r = answer.map_err(|r| (r.refusal.number(), r.at))?;
+    let r = answer.map_err(|r| (r.refusal.number(), r.field, r.at))?;
     let (event, places) = (r.event, r.places);
     Ok(Seen {
         start: r.start,
@@ -265,7 +266,7 @@ fn seen_proved(s: &[u8], answer: Result<eventlog::Record, eventlog::BadRecord>) 
 }
 
 fn seen_plain(s: &[u8], answer: Result<plain::Record, plain::Refusal>) -> Answered {
-    let r = answer.map_err(|r| (r.number, r.at))?;
+    let r = answer.map_err(|r| (r.number, r.field, r.at))?;
     Ok(Seen {
         start: r.start,
         length: r.length,
@@ -341,9 +342,17 @@ fn kind_and_direction(flags: u32, number: u32) -> Option<(ReadKind, Direction)> 
     }
 }
 
-/// The number of what may be refused, 0 for none.
-fn number_of(refusal: Option<Refusal>) -> u32 {
-    refusal.map_or(0, Refusal::number)
+/// A refusal of the proved library as the plain one has it.
+fn plainly(why: Refused) -> plain::Refused {
+    plain::Refused {
+        number: why.refusal.number(),
+        field: why.field,
+    }
+}
+
+/// What may be refused; number and field are 0 for none.
+fn numbers_of(refused: Option<Refused>) -> plain::Refused {
+    refused.map_or_else(plain::Refused::default, plainly)
 }
 
 /// A read request.
@@ -417,9 +426,10 @@ impl Check {
         if proved != plain {
             self.differ(&format!("step at {at}"), &[s], &proved, &plain);
         }
-        let number = proved.as_ref().err().map_or(0, |r| r.0);
-        let refusals = (number_of(eventlog::refusal(s, at)), plain::refusal(s, at));
-        if refusals != (number, number) {
+        let (number, field) = proved.as_ref().err().map_or((0, 0), |r| (r.0, r.1));
+        let refusals = (numbers_of(eventlog::refusal(s, at)), plain::refusal(s, at));
+        let stepped = plain::Refused { number, field };
+        if refusals != (stepped, stepped) {
             self.differ(&format!("refusal at {at}"), &[s], &refusals.0, &refusals.1);
         }
         self.count_buffer(s);
@@ -445,7 +455,7 @@ impl Check {
         self.count_case(Case::FarRecordBack, proved.is_ok() && end > FAR);
         let length = proved.as_ref().map_or(0, |seen| seen.length);
         self.count_case(Case::LongestRecordBack, length == MAX_LENGTH);
-        let too_long = matches!(proved, Err((2, _))) && end >= TOO_LONG;
+        let too_long = matches!(proved, Err((2, ..))) && end >= TOO_LONG;
         let too_long = too_long && get(s, end - 4, 4) == TOO_LONG as u32;
         self.count_case(Case::TooLongRecordBack, too_long);
         self.count(Call::StepBack, proved.err().map_or(0, |r| r.0));
@@ -458,8 +468,8 @@ impl Check {
         self.step_back(log, record.end);
         self.walks(log);
         let steps = (
-            plain::judge(log, record.start),
-            plain::judge_back(log, record.end),
+            plain::judge(log, record.start).map_err(|why| why.number),
+            plain::judge_back(log, record.end).map_err(|why| why.number),
         );
         let walks = [plain::walk(log), plain::walk_back(log)].map(|w| (w.refusal, w.at));
         let expected = [record.start, record.end].map(|at| (refusal, at));
@@ -473,22 +483,23 @@ impl Check {
 
     /// String `k` of the record at a place.
     pub fn string(&mut self, s: &[u8], at: usize, k: u32) {
-        let number = plain::string_refusal(s, at, k);
+        let refused = plain::string_refusal(s, at, k);
+        let number = refused.number;
         let plain = match number {
             0 => Ok(location(s, plain::string(s, at, k), 0)),
-            number => Err(number),
+            _ => Err(refused),
         };
         let proved = match eventlog::string(s, at, k) {
             Ok(string) => Ok(location(s, string.as_bytes(), 0)),
-            Err(refusal) => Err(refusal.number()),
+            Err(refused) => Err(plainly(refused)),
         };
-        let told = number_of(eventlog::string_refusal(s, at, k));
-        if proved != plain || told != number {
+        let told = numbers_of(eventlog::string_refusal(s, at, k));
+        if proved != plain || told != refused {
             self.differ(
                 &format!("string {k} at {at}"),
                 &[s],
                 &(proved, told),
-                &(plain, number),
+                &(plain, refused),
             );
         }
         if number != 0 && !plain::string(s, at, k).is_empty() {
@@ -581,10 +592,14 @@ impl Check {
     pub fn walks(&mut self, s: &[u8]) {
         let walks = [(eventlog::walk(s), s.len()), (eventlog::walk_back(s), 0)];
         let proved = walks.map(|(walk, reached)| match walk {
-            Ok(count) => (count, 0, reached),
-            Err(stopped) => (stopped.count, stopped.refusal.number(), stopped.at),
+            Ok(count) => (count, 0, 0, reached),
+            Err(stopped) => {
+                let number = stopped.refusal.number();
+                (stopped.count, number, stopped.field, stopped.at)
+            }
         });
-        let plain = [plain::walk(s), plain::walk_back(s)].map(|w| (w.count, w.refusal, w.at));
+        let plain = [plain::walk(s), plain::walk_back(s)];
+        let plain = plain.map(|w| (w.count, w.refusal, w.field, w.at));
         if proved != plain {
             self.differ("walk, walk_back", &[s], &proved, &plain);
         }
@@ -631,7 +646,7 @@ impl Check {
         for k in 0..=u32::from(record.event.num_strings) {
             let next = strings.next().map(Text::as_bytes);
             let numbered = record.string(k).ok().map(Text::as_bytes);
-            let plain = match plain::string_refusal(s, record.start, k) {
+            let plain = match plain::string_refusal(s, record.start, k).number {
                 0 => Some(plain::string(s, record.start, k)),
                 _ => None,
             };
@@ -816,7 +831,7 @@ impl Check {
     pub fn append(&mut self, log: &mut Vec<u8>, used: usize, event: &Made) -> Option<usize> {
         let mut other = log.clone();
         let old = log.clone();
-        let proved = eventlog::append(log, used, &event.proved()).map_err(Refusal::number);
+        let proved = eventlog::append(log, used, &event.proved()).map_err(plainly);
         let plain = plain::append(&mut other, used, &event.plain());
         let call = format!("append behind {used} of {:?}", event.fields);
         let parts = parts_of(event);
@@ -832,7 +847,7 @@ impl Check {
         if !kept(0..written.start) || !kept(written.end..old.len()) {
             self.differ(&call, &inputs, &"both change other bytes", &hex(log));
         }
-        self.count_append(log, used, event, plain);
+        self.count_append(log, used, event, plain.map_err(|why| why.number));
         plain.ok()
     }
 
@@ -964,7 +979,7 @@ fn listing_text(s: &[u8]) -> String {
                 let _ = writeln!(lines, "{} {} {number}", r.start, r.length);
                 at += r.length;
             }
-            Err(r) => return format!("refused {} at {}\n", r.number, r.at),
+            Err(r) => return format!("refused {} at {} field {}\n", r.number, r.at, r.field),
         }
         count += 1;
     }

@@ -38,13 +38,14 @@ fn refused_with_10() {
     let well_formed = [1, 1, 0, 0, 0, 0, 0, 5, 18, 0, 0, 0];
     for sid in [printed, well_formed] {
         let record = record(sid);
-        let proved = eventlog::step(&record, 0).map_err(|r| r.refusal.number());
-        let back = eventlog::step_back(&record, record.len()).map_err(|r| r.refusal.number());
-        assert_eq!((proved, back), (Err(10), Err(10)));
+        let proved = eventlog::step(&record, 0).map_err(|r| (r.refusal.number(), r.field));
+        let back =
+            eventlog::step_back(&record, record.len()).map_err(|r| (r.refusal.number(), r.field));
+        assert_eq!((proved, back), (Err((10, 44)), Err((10, 44))));
         let plain = (
-            plain::judge(&record, 0),
-            plain::judge_back(&record, record.len()),
+            plain::judge(&record, 0).map_err(|why| (why.number, why.field)),
+            plain::judge_back(&record, record.len()).map_err(|why| (why.number, why.field)),
         );
-        assert_eq!(plain, (Err(10), Err(10)));
+        assert_eq!(plain, (Err((10, 44)), Err((10, 44))));
     }
 }

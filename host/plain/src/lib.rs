@@ -17,7 +17,7 @@ mod write;
 
 pub use judge::{judge, judge_back};
 pub use layout::{
-    refused, Fields, MAX_DATA, MAX_LENGTH, MAX_STRINGS, MIN_LENGTH, SIGNATURE, XML_FLAG,
+    refused, Fields, Refused, MAX_DATA, MAX_LENGTH, MAX_STRINGS, MIN_LENGTH, SIGNATURE, XML_FLAG,
 };
 pub use listing::{listing, MAX_LISTED};
 pub use record::{

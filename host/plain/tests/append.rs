@@ -30,6 +30,7 @@ fn numbers_count_on() {
         Walked {
             count: 3,
             refusal: 0,
+            field: 0,
             at: used,
         }
     );
@@ -59,7 +60,14 @@ fn refusals_change_nothing() {
     log.extend([0xAA; 63]);
     let before = log.clone();
     let mut expect = |used, event: &Event, number| {
-        assert_eq!(append(&mut log, used, event), Err(number));
+        // The field of 14 is that of the step from the rear.
+        let field = if number == 14 {
+            step_back(&log, used).unwrap_err().field
+        } else {
+            0
+        };
+        let refused = Err(Refused { number, field });
+        assert_eq!(append(&mut log, used, event), refused);
         assert_eq!(log, before);
     };
     expect(232, &wrong, 1);
@@ -69,11 +77,27 @@ fn refusals_change_nothing() {
     expect(168, &wrong, 6);
     expect(0, &wrong, 6);
     expect(168, &s_event(), 15);
-    assert_eq!(append(&mut [], 0, &s_event()), Err(15));
-    assert_eq!(append(&mut [], 1, &s_event()), Err(1));
+    assert_eq!(number(append(&mut [], 0, &s_event())), Err(15));
+    assert_eq!(number(append(&mut [], 1, &s_event())), Err(1));
     // Only the last record is judged.
     let mut log = [0xFF; 200];
     log[36..100].copy_from_slice(&S);
     assert_eq!(append(&mut log, 100, &s_event()), Ok(164));
     assert_eq!(step(&log, 100).unwrap().fields.record_number, 8);
+}
+
+#[test]
+fn broken_ends() {
+    for (at, byte, field) in [
+        (4, 0, 4),
+        (0, 100, 0),
+        (24, 3, 24),
+        (44, 77, 44),
+        (48, 2, 0),
+    ] {
+        let mut log = s_t();
+        log[64 + at] = byte;
+        let refused = Err(Refused { number: 14, field });
+        assert_eq!(append(&mut log, 168, &s_event()), refused);
+    }
 }

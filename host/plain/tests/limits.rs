@@ -42,8 +42,8 @@ fn longest_record() {
     longer.extend(262_144u32.to_le_bytes());
     let longer = with32(&longer, 0, 262_144);
     assert_eq!(longer.len(), 262_144);
-    assert_eq!(judge(&longer, 0), Err(2));
-    assert_eq!(judge_back(&longer, 262_144), Err(2));
+    assert_eq!(number(judge(&longer, 0)), Err(2));
+    assert_eq!(number(judge_back(&longer, 262_144)), Err(2));
 }
 
 /// Every part is past what 16 bits count, but for the names' start.
@@ -105,18 +105,22 @@ fn longest_record_of_every_part() {
         place = next.next;
     }
     assert_eq!(place, 200_694);
-    assert_eq!(string_refusal(&record, 0, 256), 17);
+    assert_eq!(string_refusal(&record, 0, 256).number, 17);
 
     // Behind S, as the log's next record, and served from both ends.
     let mut log = vec![0xAA; 64 + 262_140];
     log[..64].copy_from_slice(&S);
-    assert_eq!(append(&mut log[..64 + 262_139], 64, &event), Err(15));
+    assert_eq!(
+        number(append(&mut log[..64 + 262_139], 64, &event)),
+        Err(15)
+    );
     assert!(log[64..].iter().all(|b| *b == 0xAA));
     assert_eq!(append(&mut log, 64, &event), Ok(64 + 262_140));
     assert_eq!(log[64..], with32(&record, 8, 8));
     let walked = |at| Walked {
         count: 2,
         refusal: 0,
+        field: 0,
         at,
     };
     assert_eq!(walk(&log), walked(64 + 262_140));
@@ -172,20 +176,21 @@ fn texts_that_run_up_to_length2() {
             let record = running_on(length, body, strings);
             assert_eq!(record[length - 4..length - 2], [0, 0]);
             assert_eq!(record.len(), length);
-            let number = judge(&record, 0).unwrap_err();
-            assert_eq!(slow(&record, 0), Err(number));
-            assert_eq!(judge_back(&record, length), Err(number));
-            assert_eq!(slow_back(&record, length), Err(number));
+            let why = judge(&record, 0).unwrap_err();
+            assert_eq!(slow(&record, 0), Err(why));
+            assert_eq!(judge_back(&record, length), Err(why));
+            assert_eq!(slow_back(&record, length), Err(why));
             // In a log too, whose next bytes look like more of the record.
             let log = [&S[..], &record, &S].concat();
             let stopped = |at| Walked {
                 count: 1,
-                refusal: number,
+                refusal: why.number,
+                field: why.field,
                 at,
             };
             assert_eq!(walk(&log), stopped(64));
             assert_eq!(walk_back(&log), stopped(64 + length));
-            number
+            why.number
         };
         // Neither name ends; only the source name does; the names do.
         assert_eq!(refused(&[], 0), 9);
@@ -194,8 +199,8 @@ fn texts_that_run_up_to_length2() {
         // The first of two strings ends.
         let mut record = running_on(length, &[0; 4], 2);
         record[70..72].fill(0);
-        assert_eq!(judge(&record, 0), Err(11));
-        assert_eq!(judge_back(&record, length), Err(11));
+        assert_eq!(number(judge(&record, 0)), Err(11));
+        assert_eq!(number(judge_back(&record, length)), Err(11));
 
         // With a zero unit right before Length2 each of them is good.
         for (body, strings, zeros) in [(&[][..], 0, 4), (&[0; 2][..], 0, 2), (&[0; 4][..], 1, 2)] {
@@ -235,17 +240,18 @@ fn string_counts() {
     let most = written(&event(256));
     assert_eq!(most.len(), 60 + 512 + 4);
     assert_eq!(judge(&most, 0), Ok(576));
-    assert_eq!(string_refusal(&most, 0, 255), 0);
-    assert_eq!(string_refusal(&most, 0, 256), 17);
+    assert_eq!(string_refusal(&most, 0, 255).number, 0);
+    assert_eq!(string_refusal(&most, 0, 256).number, 17);
     assert_eq!(write(&event(257), &mut [0; 1000]), Err(8));
 
     let more = with16(&most, 26, 257);
-    assert_eq!((judge(&more, 0), judge_back(&more, 576)), (Err(8), Err(8)));
+    let both = (number(judge(&more, 0)), number(judge_back(&more, 576)));
+    assert_eq!(both, (Err(8), Err(8)));
     // One fewer leaves two bytes that nothing accounts for; the gap takes them.
     let fewer = with16(&most, 26, 255);
     assert_eq!(judge(&fewer, 0), Ok(576));
     let fewer = with16(&most, 26, 254);
-    assert_eq!(judge(&fewer, 0), Err(13));
+    assert_eq!(number(judge(&fewer, 0)), Err(13));
 }
 
 #[test]
@@ -260,8 +266,8 @@ fn data_lengths() {
     record.extend([0; 4]);
     record.extend(61_508u32.to_le_bytes());
     let record = with32(&with32(&record, 0, 61_508), 48, 61_441);
-    assert_eq!(judge(&record, 0), Err(12));
-    assert_eq!(judge_back(&record, 61_508), Err(12));
+    assert_eq!(number(judge(&record, 0)), Err(12));
+    assert_eq!(number(judge_back(&record, 61_508)), Err(12));
 }
 
 fn with_sid(sid: &[u8]) -> Event<'_> {
@@ -282,7 +288,7 @@ fn sid_lengths() {
         for (at, value) in [(60, 0), (60, 2), (61, n + 1)] {
             let mut wrong = record.clone();
             wrong[at] = value;
-            assert_eq!(judge(&wrong, 0), Err(10));
+            assert_eq!(number(judge(&wrong, 0)), Err(10));
             assert_eq!(
                 write(&with_sid(&wrong[60..60 + sid.len()]), &mut [0; 400]),
                 Err(10)
@@ -304,17 +310,18 @@ fn sid_lengths() {
 fn sums_that_wrap() {
     // Offset plus length is a place inside the record only in 32 bits.
     for length in [u32::MAX, u32::MAX - 3, 0x8000_0000, 0xFFFF_FFB4] {
-        assert_eq!(judge(&with32(&T, 40, length), 0), Err(10));
-        assert_eq!(judge(&with32(&T, 48, length), 0), Err(12));
+        assert_eq!(number(judge(&with32(&T, 40, length), 0)), Err(10));
+        assert_eq!(number(judge(&with32(&T, 48, length), 0)), Err(12));
         let moved = with32(&with32(&T, 48, length), 52, 97u32.wrapping_sub(length));
-        assert_eq!(judge(&moved, 0), Err(12));
+        assert_eq!(number(judge(&moved, 0)), Err(12));
     }
-    assert_eq!(judge(&T, usize::MAX), Err(1));
-    assert_eq!(judge_back(&T, usize::MAX), Err(1));
+    assert_eq!(number(judge(&T, usize::MAX)), Err(1));
+    assert_eq!(number(judge_back(&T, usize::MAX)), Err(1));
     assert_eq!(
         step(&T, usize::MAX),
         Err(Refusal {
             number: 1,
+            field: 0,
             at: usize::MAX
         })
     );
@@ -322,10 +329,14 @@ fn sums_that_wrap() {
         step_back(&T, usize::MAX),
         Err(Refusal {
             number: 1,
+            field: 0,
             at: usize::MAX
         })
     );
-    assert_eq!(append(&mut T.clone(), usize::MAX, &s_event()), Err(1));
+    assert_eq!(
+        number(append(&mut T.clone(), usize::MAX, &s_event())),
+        Err(1)
+    );
 }
 
 #[test]
@@ -335,9 +346,30 @@ fn places() {
         assert_eq!(judge(&log, at), slow(&log, at), "at {at}");
         assert_eq!(judge_back(&log, at), slow_back(&log, at), "end {at}");
     }
-    assert_eq!(step(&log, 105), Err(Refusal { number: 1, at: 105 }));
-    assert_eq!(step_back(&log, 169), Err(Refusal { number: 1, at: 169 }));
-    assert_eq!(step_back(&log, 63), Err(Refusal { number: 1, at: 63 }));
+    assert_eq!(
+        step(&log, 105),
+        Err(Refusal {
+            number: 1,
+            field: 0,
+            at: 105
+        })
+    );
+    assert_eq!(
+        step_back(&log, 169),
+        Err(Refusal {
+            number: 1,
+            field: 0,
+            at: 169
+        })
+    );
+    assert_eq!(
+        step_back(&log, 63),
+        Err(Refusal {
+            number: 1,
+            field: 0,
+            at: 63
+        })
+    );
     assert_eq!(step_back(&log, 100).unwrap_err().at, 100);
     assert_eq!(step(&log, 64).unwrap().start, 64);
     assert_eq!(step_back(&log, 168).unwrap(), step(&log, 64).unwrap());
@@ -350,7 +382,7 @@ fn reading_refuses_in_order() {
     let mut bytes = T.to_vec();
     let mut expect = |at: usize, change: &[u8], number: u32| {
         bytes[at..at + change.len()].copy_from_slice(change);
-        assert_eq!(judge(&bytes, 0), Err(number));
+        assert_eq!(judge(&bytes, 0).map_err(|why| why.number), Err(number));
     };
     expect(48, &[0], 13);
     expect(48, &[7], 12);
@@ -364,7 +396,7 @@ fn reading_refuses_in_order() {
     expect(4, &[0], 4);
     expect(0, &[108], 3);
     expect(0, &[109], 2);
-    assert_eq!(judge(&bytes[..63], 0), Err(1));
+    assert_eq!(number(judge(&bytes[..63], 0)), Err(1));
 }
 
 #[test]
@@ -372,7 +404,10 @@ fn reading_back_refuses_in_order() {
     let mut bytes = T.to_vec();
     let mut expect = |at: usize, change: &[u8], number: u32| {
         bytes[at..at + change.len()].copy_from_slice(change);
-        assert_eq!(judge_back(&bytes, 104), Err(number));
+        assert_eq!(
+            judge_back(&bytes, 104).map_err(|why| why.number),
+            Err(number)
+        );
     };
     expect(52, &[95], 12);
     expect(24, &[3], 6);
@@ -380,8 +415,8 @@ fn reading_back_refuses_in_order() {
     expect(4, &[0], 4);
     expect(100, &[108], 3);
     expect(100, &[109], 2);
-    assert_eq!(judge_back(&bytes, 63), Err(1));
-    assert_eq!(judge_back(&bytes, 105), Err(1));
+    assert_eq!(number(judge_back(&bytes, 63)), Err(1));
+    assert_eq!(number(judge_back(&bytes, 105)), Err(1));
 }
 
 #[test]

@@ -53,11 +53,11 @@ fn written_records_read_back() {
 
         for (k, expected) in owned.strings.iter().enumerate() {
             assert_eq!(string(&buffer, before, k as u32), expected);
-            assert_eq!(string_refusal(&buffer, before, k as u32), 0);
+            assert_eq!(string_refusal(&buffer, before, k as u32).number, 0);
         }
         let count = owned.strings.len() as u32;
         assert_eq!(string(&buffer, before, count), b"");
-        assert_eq!(string_refusal(&buffer, before, count), 17);
+        assert_eq!(string_refusal(&buffer, before, count).number, 17);
         assert_eq!(source_name(&buffer, before), event.source_name);
         assert_eq!(computer_name(&buffer, before), event.computer_name);
         assert_eq!(sid(&buffer, before), event.sid);
@@ -88,19 +88,20 @@ fn writing_does_not_keep_old_bytes() {
     assert_eq!(ones, T);
 }
 
+fn why(r: Refusal) -> Refused {
+    Refused {
+        number: r.number,
+        field: r.field,
+    }
+}
+
 fn compare(s: &[u8]) {
     assert_eq!(judge(s, 0), slow(s, 0));
     assert_eq!(judge_back(s, s.len()), slow_back(s, s.len()));
-    assert_eq!(
-        step(s, 0).map(|r| r.length).map_err(|r| r.number),
-        slow(s, 0)
-    );
+    assert_eq!(step(s, 0).map(|r| r.length).map_err(why), slow(s, 0));
     let back = step_back(s, s.len());
-    assert_eq!(
-        back.map(|r| r.length).map_err(|r| r.number),
-        slow_back(s, s.len())
-    );
-    assert_eq!(refusal(s, 0), slow(s, 0).err().unwrap_or(0));
+    assert_eq!(back.map(|r| r.length).map_err(why), slow_back(s, s.len()));
+    assert_eq!(refusal(s, 0), slow(s, 0).err().unwrap_or_default());
 }
 
 #[test]
@@ -146,7 +147,7 @@ fn random_changes() {
         compare(&bytes);
         match slow(&bytes, 0) {
             Ok(_) => accepted += 1,
-            Err(number) => seen[number as usize] = true,
+            Err(why) => seen[why.number as usize] = true,
         }
     }
     assert!(accepted > 1000);
@@ -166,6 +167,7 @@ fn walks_agree() {
         let whole = |at| Walked {
             count,
             refusal: 0,
+            field: 0,
             at,
         };
         assert_eq!(walk(&log), whole(log.len()));
@@ -199,7 +201,10 @@ fn walks_agree() {
             assert_eq!(first, format!("records {}", front.count));
             assert_eq!(text.lines().count(), front.count + 1);
         } else {
-            assert_eq!(first, format!("refused {} at {}", front.refusal, front.at));
+            let Walked {
+                refusal, field, at, ..
+            } = front;
+            assert_eq!(first, format!("refused {refusal} at {at} field {field}"));
             assert_eq!(text.lines().count(), 1);
         }
     }
@@ -210,15 +215,11 @@ fn slow_walk(s: &[u8]) -> Walked {
     while at != s.len() {
         match slow(s, at) {
             Ok(length) => at += length,
-            Err(refusal) => return Walked { count, refusal, at },
+            Err(why) => return stopped(count, why, at),
         }
         count += 1;
     }
-    Walked {
-        count,
-        refusal: 0,
-        at,
-    }
+    stopped(count, Refused::default(), at)
 }
 
 fn slow_walk_back(s: &[u8]) -> Walked {
@@ -226,19 +227,18 @@ fn slow_walk_back(s: &[u8]) -> Walked {
     while end != 0 {
         match slow_back(s, end) {
             Ok(length) => end -= length,
-            Err(refusal) => {
-                return Walked {
-                    count,
-                    refusal,
-                    at: end,
-                }
-            }
+            Err(why) => return stopped(count, why, end),
         }
         count += 1;
     }
+    stopped(count, Refused::default(), end)
+}
+
+fn stopped(count: usize, why: Refused, at: usize) -> Walked {
     Walked {
         count,
-        refusal: 0,
-        at: end,
+        refusal: why.number,
+        field: why.field,
+        at,
     }
 }

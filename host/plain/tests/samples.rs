@@ -14,11 +14,30 @@ fn boundary(at: usize) -> Handle {
     }
 }
 
-/// The number with which `s` is refused at 0, from the front and, as a whole,
-/// from the rear.
+/// Number and field with which `s` is refused at 0, from the front and, as a
+/// whole, from the rear.
+fn fields(s: &[u8]) -> [(u32, usize); 2] {
+    assert_eq!(refusal(s, 0), judge(s, 0).err().unwrap_or_default());
+    let rear = judge_back(s, s.len()).err().unwrap_or_default();
+    [refusal(s, 0), rear].map(|why| (why.number, why.field))
+}
+
+/// The numbers alone.
 fn both(s: &[u8]) -> (u32, u32) {
-    assert_eq!(refusal(s, 0), judge(s, 0).err().unwrap_or(0));
-    (refusal(s, 0), judge_back(s, s.len()).err().unwrap_or(0))
+    let [front, rear] = fields(s);
+    (front.0, rear.0)
+}
+
+fn refused_at(number: u32, at: usize) -> Refusal {
+    Refusal {
+        number,
+        field: 0,
+        at,
+    }
+}
+
+fn why(number: u32, field: usize) -> Refused {
+    Refused { number, field }
 }
 
 #[test]
@@ -71,25 +90,26 @@ fn parts_of_t_by_place() {
     assert_eq!(sid(&log, 64), SID);
     assert_eq!(event_data(&log, 64), [0; 3]);
     assert_eq!(string(&log, 64, 0), OK);
-    assert_eq!(string_refusal(&log, 64, 0), 0);
+    assert_eq!(string_refusal(&log, 64, 0), why(0, 0));
     for k in [1, 2, 256, u32::MAX] {
         assert_eq!(string(&log, 64, k), b"");
-        assert_eq!(string_refusal(&log, 64, k), 17);
+        assert_eq!(string_refusal(&log, 64, k), why(17, 0));
     }
     // S has none of the parts.
     for part in [source_name, computer_name, sid, event_data] {
         assert_eq!(part(&log, 0), b"");
     }
-    assert_eq!((refusal(&log, 0), string_refusal(&log, 0, 0)), (0, 17));
+    assert_eq!(refusal(&log, 0), why(0, 0));
+    assert_eq!(string_refusal(&log, 0, 0), why(17, 0));
     // A refused record hands back nothing; it is judged before the number.
     for part in [source_name, computer_name, sid, event_data] {
         assert_eq!(part(&log, 4), b"");
     }
     assert_eq!(string(&log, 4, 0), b"");
-    assert_eq!(refusal(&log, 4), 2);
+    assert_eq!(refusal(&log, 4), why(2, 0));
     assert_eq!(
         (string_refusal(&log, 4, 0), string_refusal(&log, 4, 9)),
-        (2, 2)
+        (why(2, 0), why(2, 0))
     );
     // They are the caller's own bytes.
     assert!(std::ptr::eq(sid(&log, 64), &log[140..152]));
@@ -100,7 +120,7 @@ fn parts_of_t_by_place() {
 fn t_changed() {
     assert_eq!(both(&with32(&T, 36, 90)), (11, 11));
     assert_eq!(both(&with32(&T, 52, 95)), (12, 12));
-    assert_eq!(refusal(&with32(&T, 100, 100), 0), 5);
+    assert_eq!(refusal(&with32(&T, 100, 100), 0), why(5, 100));
     assert_eq!(both(&with16(&T, 24, 3)), (6, 6));
     assert_eq!(both(&with16(&T, 24, 32)), (6, 6));
     assert_eq!(both(&with16(&T, 24, 16)), (0, 0));
@@ -109,6 +129,34 @@ fn t_changed() {
     let many = with16(&T, 26, 300);
     assert_eq!(both(&with16(&many, 30, 0x8000)), (8, 8));
     assert_eq!(both(&with16(&many, 30, 0x4000)), (7, 7));
+}
+
+#[test]
+fn fields_that_failed() {
+    let same = |bytes: &[u8], number, field| {
+        assert_eq!(fields(bytes), [(number, field); 2]);
+    };
+    same(&[], 1, 0);
+    same(&with32(&T, 4, 0), 4, 4);
+    same(&with16(&T, 24, 3), 6, 24);
+    same(&with16(&T, 30, 0x4000), 7, 30);
+    same(&with16(&T, 26, 257), 8, 26);
+    same(&with32(&T, 44, 77), 10, 44);
+    same(&with32(&T, 40, 16), 10, 44);
+    same(&with32(&T, 36, 90), 11, 36);
+    same(&with16(&T, 26, 5), 11, 36);
+    same(&with32(&T, 52, 95), 12, 48);
+    same(&with32(&T, 48, 61_441), 12, 48);
+    same(&with32(&T, 48, 2), 13, 0);
+    // Neither name of S ends, or only SourceName does.
+    same(&with32(&S, 56, 0x0001_0001), 9, 56);
+    same(&with32(&S, 56, 0x0001_0000), 9, 58);
+    same(&with32(&S, 56, 0x0000_0001), 9, 60);
+    // Length, and Length2 from the rear, is where the number was read.
+    assert_eq!(fields(&with32(&T, 0, 100)), [(5, 96), (5, 0)]);
+    assert_eq!(fields(&with32(&T, 100, 100)), [(5, 100), (4, 4)]);
+    assert_eq!(fields(&with32(&T, 0, 60)), [(2, 0), (5, 0)]);
+    assert_eq!(fields(&with32(&T, 100, 108)), [(5, 100), (3, 0)]);
 }
 
 #[test]
@@ -155,11 +203,12 @@ fn strings_in_turn() {
 
 #[test]
 fn empty_buffer() {
-    assert_eq!(step(&[], 0), Err(Refusal { number: 1, at: 0 }));
-    assert_eq!(step_back(&[], 0), Err(Refusal { number: 1, at: 0 }));
+    assert_eq!(step(&[], 0), Err(refused_at(1, 0)));
+    assert_eq!(step_back(&[], 0), Err(refused_at(1, 0)));
     let none = Walked {
         count: 0,
         refusal: 0,
+        field: 0,
         at: 0,
     };
     assert_eq!((walk(&[]), walk_back(&[])), (none, none));

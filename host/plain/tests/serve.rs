@@ -145,6 +145,7 @@ fn a_record_in_the_data_is_not_met() {
     let whole = |at| Walked {
         count: 3,
         refusal: 0,
+        field: 0,
         at,
     };
     assert_eq!(walk(&log), whole(log.len()));
