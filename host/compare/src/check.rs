@@ -103,9 +103,15 @@ pub enum Case {
     ZeroUnitString,
     /// The program lists one record that fills its input.
     FullProgramRecord,
+    /// A record that is longer when it is written again.
+    LongerRewrite,
+    /// A record that is shorter when it is written again.
+    ShorterRewrite,
+    /// A record that cannot be written again: it would be too long.
+    RefusedRewrite,
 }
 
-pub const CASES: [Case; 32] = [
+pub const CASES: [Case; 35] = [
     Case::FarRecord,
     Case::FarRecordBack,
     Case::FarString,
@@ -138,6 +144,9 @@ pub const CASES: [Case; 32] = [
     Case::ZeroUnitName,
     Case::ZeroUnitString,
     Case::FullProgramRecord,
+    Case::LongerRewrite,
+    Case::ShorterRewrite,
+    Case::RefusedRewrite,
 ];
 
 /// Where far and long begin: what 16 bits count, and the listing program's limit.
@@ -166,7 +175,7 @@ pub const STATUSES: [u32; 6] = [
 pub const FLAGS: [u32; 4] = [5, 9, 6, 10];
 
 /// What was compared, and with which answers.
-#[derive(Clone, Debug, Default)]
+#[derive(Clone, Debug)]
 pub struct Tally {
     /// Different buffers that were judged, each counted once in a round.
     pub buffers: u64,
@@ -176,6 +185,18 @@ pub struct Tally {
     /// By kind of flags and status.
     pub statuses: [[u64; 6]; 5],
     pub cases: [u64; CASES.len()],
+}
+
+impl Default for Tally {
+    fn default() -> Self {
+        Tally {
+            buffers: 0,
+            calls: 0,
+            refusals: [[0; 18]; CALLS],
+            statuses: [[0; 6]; 5],
+            cases: [0; CASES.len()],
+        }
+    }
 }
 
 impl Tally {
@@ -277,6 +298,18 @@ fn seen_plain(s: &[u8], answer: Result<plain::Record, plain::Refusal>) -> Answer
         strings: location(s, r.strings, r.strings_at),
         event_data: location(s, r.event_data, r.event_data_at),
     })
+}
+
+/// The event of a plain record, to be written again.
+fn again<'a>(r: &plain::Record<'a>) -> plain::Event<'a> {
+    plain::Event {
+        fields: r.fields,
+        source_name: r.source_name,
+        computer_name: r.computer_name,
+        sid: r.sid,
+        strings: r.strings,
+        event_data: r.event_data,
+    }
 }
 
 /// A handle of both libraries.
@@ -459,6 +492,35 @@ impl Check {
         let too_long = too_long && get(s, end - 4, 4) == TOO_LONG as u32;
         self.count_case(Case::TooLongRecordBack, too_long);
         self.count(Call::StepBack, proved.err().map_or(0, |r| r.0));
+    }
+
+    /// A good record read and written again (Rule 6.15): its event in the
+    /// writer's own layout, at most four bytes longer, or refusal 2.
+    pub fn rewrite(&mut self, s: &[u8]) {
+        let event = plain::step(s, 0).expect("the record is good");
+        let read = eventlog::step(s, 0).expect("the record is good");
+        let mut out = self.outputs(s.len() + 4);
+        let number = read.record_number;
+        let proved = eventlog::write(number, &read.event, &mut out[0]).map_err(Refusal::number);
+        let plain = plain::write(&again(&event), &mut out[1]);
+        let longer = plain.is_ok_and(|length| length > s.len());
+        let right = match plain {
+            Ok(length) => {
+                plain::step(&out[1], 0).is_ok_and(|r| again(&r) == again(&event))
+                    && length <= s.len() + 4
+            }
+            Err(number) => number == 2 && s.len() == MAX_LENGTH,
+        };
+        if proved != plain || !right {
+            self.differ("rewriting", &[s], &proved, &plain);
+        }
+        self.same_outputs("rewriting", &[s], out, plain.unwrap_or(0));
+        self.count_case(Case::LongerRewrite, longer);
+        self.count_case(
+            Case::ShorterRewrite,
+            plain.is_ok_and(|length| length < s.len()),
+        );
+        self.count_case(Case::RefusedRewrite, plain.is_err());
     }
 
     /// A record of a log whose text runs up to Length2: refused so from both

@@ -56,6 +56,7 @@ fn fields(rng: &mut Random, check: &mut Check) {
         };
         let good = make::record(rng, size);
         check.buffer(&good);
+        check.rewrite(&good);
         every_field(rng, check, &good);
     }
 }
@@ -215,7 +216,13 @@ fn limits(rng: &mut Random, check: &mut Check) {
             check.buffer(&made.encode(Some(rng)));
             check.write(&made, make::TOO_LONG);
         }
+        if rng.once_in(8) {
+            let longest = make::longest_without_gap(rng);
+            check.buffer(&longest);
+            check.rewrite(&longest);
+        }
         let good = make::record(rng, Size::Large);
+        check.rewrite(&good);
         check.buffer(&good);
         if rng.once_in(200) {
             every_field(rng, check, &good);

@@ -320,26 +320,59 @@ impl Made {
         }
     }
 
-    fn sid_at(&self) -> usize {
-        aligned(56 + self.source.len() + 2 + self.computer.len() + 2)
+    fn names_end(&self) -> usize {
+        56 + self.source.len() + 2 + self.computer.len() + 2
     }
 
-    /// The laid-out size.
+    /// The gap after the names, as the writer pads.
+    fn padding(&self) -> usize {
+        aligned(self.names_end()) - self.names_end()
+    }
+
+    /// The laid-out size with a gap after the names.
+    fn length_with(&self, gap: usize) -> usize {
+        let parts = self.sid.len() + self.strings.len() + self.data.len();
+        aligned(self.names_end() + gap + parts) + 4
+    }
+
+    /// The size as the writer lays it out.
     pub fn length(&self) -> usize {
-        aligned(self.sid_at() + self.sid.len() + self.strings.len() + self.data.len()) + 4
+        self.length_with(self.padding())
     }
 
-    /// The record, laid out as Rule 2.2 has it; the ignored bytes are zero, or
-    /// any.
-    pub fn encode(&self, mut any: Option<&mut Random>) -> Vec<u8> {
+    /// The record as the writer lays it out; the ignored bytes are zero, or any.
+    pub fn encode(&self, any: Option<&mut Random>) -> Vec<u8> {
+        self.gapped(self.padding(), any)
+    }
+
+    /// A gap after the names with which the record is not too long: the padding,
+    /// none, a few bytes, or any number (Rule 2.12).
+    fn some_gap(&self, rng: &mut Random) -> usize {
+        let gap = match rng.below(8) {
+            0..4 => self.padding(),
+            4 => 0,
+            _ if rng.once_in(100) => rng.below(MAX_LENGTH),
+            _ => rng.range(0, 40),
+        };
+        if self.length_with(gap) <= MAX_LENGTH {
+            gap
+        } else {
+            self.padding()
+        }
+    }
+
+    /// The record, laid out as Rule 2.2 has it with this gap after the names; the
+    /// ignored bytes are zero, or any.
+    pub fn gapped(&self, gap: usize, mut any: Option<&mut Random>) -> Vec<u8> {
         let mut ignored = |len: usize| match &mut any {
             Some(rng) => rng.bytes(len),
             None => vec![0; len],
         };
-        let sid_at = self.sid_at();
+        let sid_at = self.names_end() + gap;
         let strings_at = sid_at + self.sid.len();
         let data_at = strings_at + self.strings.len();
-        let length = (self.length() as u32).to_le_bytes();
+        let whole = self.length_with(gap);
+        let length = (whole as u32).to_le_bytes();
         let mut offset = |present: bool, at: usize| match present {
             true => (at as u32).to_le_bytes().to_vec(),
             false => ignored(4),
@@ -348,7 +381,7 @@ impl Made {
         let sid_offset = offset(!self.sid.is_empty(), sid_at);
         let data_offset = offset(!self.data.is_empty(), data_at);
 
-        let mut out = Vec::with_capacity(self.length());
+        let mut out = Vec::with_capacity(whole);
         out.extend(length);
         out.extend(0x654C_664Cu32.to_le_bytes());
         self.put_fields(&mut out);
@@ -366,7 +399,7 @@ impl Made {
         out.extend(&self.sid);
         out.extend(&self.strings);
         out.extend(&self.data);
-        out.extend(ignored(self.length() - 4 - out.len()));
+        out.extend(ignored(whole - 4 - out.len()));
         out.extend(length);
         out
     }
@@ -418,7 +451,22 @@ fn corrupt_text(rng: &mut Random, bytes: &mut Vec<u8>) {
 
 /// A good record with any bytes where they are ignored.
 pub fn record(rng: &mut Random, size: Size) -> Vec<u8> {
-    Made::good(rng, size).encode(Some(rng))
+    let made = Made::good(rng, size);
+    let gap = made.some_gap(rng);
+    made.gapped(gap, Some(rng))
+}
+
+/// A record of the largest Length with no gap after the names. Padded, it would be
+/// too long.
+pub fn longest_without_gap(rng: &mut Random) -> Vec<u8> {
+    let made = Made {
+        source: text(rng, 100_319),
+        data: rng.bytes(MAX_DATA - 2),
+        ..Made::default()
+    };
+    let record = made.gapped(0, Some(rng));
+    assert_eq!((record.len(), made.length()), (MAX_LENGTH, TOO_LONG));
+    record
 }
 
 /// A record of this Length in which a text runs up to Length2, and all else is
@@ -427,7 +475,7 @@ pub fn unended(rng: &mut Random, length: usize) -> (Vec<u8>, u32) {
     let mut made = Made::good(rng, Size::Small);
     made.data.clear();
     made.push_string(rng, 0);
-    let strings_at = made.sid_at() + made.sid.len();
+    let strings_at = aligned(made.names_end()) + made.sid.len();
     let (from, refusal) = rng.pick(&[
         (56, 9),
         (56 + made.source.len() + 2, 9),
@@ -655,7 +703,14 @@ fn place_parts(rng: &mut Random, out: &mut [u8]) {
     let Some(names_end) = zero(56, out).and_then(|at| zero(at, out)) else {
         return;
     };
-    let mut at = aligned(names_end);
+    let mut at = match rng.below(3) {
+        0 => aligned(names_end),
+        1 => names_end,
+        _ => names_end + rng.below(12),
+    };
+    if at + 80 > length {
+        return;
+    }
     if rng.once_in(2) {
         let n = rng.below(4);
         put(out, 40, 4, 8 + 4 * n as u32);

@@ -31,21 +31,29 @@ fn record(sid: [u8; 12]) -> Vec<u8> {
     bytes
 }
 
-/// Rule 11.21: UserSidOffset is 106, and the order puts the SID at 104.
+/// Rule 11.21: the SID stands where its offset says, after a gap of four bytes.
+/// As it is printed, its first byte is not 1; with a well-formed one the parts
+/// end four bytes before Length2, where at most three may lie.
 #[test]
-fn refused_with_10() {
+fn refused_with_10_or_13() {
     let printed = [0, 0, 0, 0, 0, 0, 1, 0, 0, 0x46, 0, 0];
     let well_formed = [1, 1, 0, 0, 0, 0, 0, 5, 18, 0, 0, 0];
-    for sid in [printed, well_formed] {
+    for (sid, refused) in [(printed, (10, 44)), (well_formed, (13, 0))] {
         let record = record(sid);
-        let proved = eventlog::step(&record, 0).map_err(|r| (r.refusal.number(), r.field));
-        let back =
-            eventlog::step_back(&record, record.len()).map_err(|r| (r.refusal.number(), r.field));
-        assert_eq!((proved, back), (Err((10, 44)), Err((10, 44))));
-        let plain = (
-            plain::judge(&record, 0).map_err(|why| (why.number, why.field)),
-            plain::judge_back(&record, record.len()).map_err(|why| (why.number, why.field)),
-        );
-        assert_eq!(plain, (Err((10, 44)), Err((10, 44))));
+        let end = record.len();
+        let proved = [
+            eventlog::step(&record, 0),
+            eventlog::step_back(&record, end),
+        ];
+        for step in proved {
+            assert_eq!(
+                step.map_err(|r| (r.refusal.number(), r.field)),
+                Err(refused)
+            );
+        }
+        let plain = [plain::judge(&record, 0), plain::judge_back(&record, end)];
+        for judged in plain {
+            assert_eq!(judged.map_err(|why| (why.number, why.field)), Err(refused));
+        }
     }
 }

@@ -165,11 +165,66 @@ fn s_changed() {
     longer.extend([0; 4]);
     longer.extend(68u32.to_le_bytes());
     let longer = with32(&longer, 0, 68);
-    assert_eq!(both(&longer), (13, 13));
+    let record = step(&longer, 0).unwrap();
+    assert_eq!((record.length, record.fields.record_number), (68, 7));
+    let places = [record.sid_at, record.strings_at, record.event_data_at];
+    assert_eq!(places, [64; 3]);
     assert_eq!(both(&with32(&S, 0, 60)), (2, 5));
     assert_eq!(both(&with16(&S, 30, 0x8000)), (7, 7));
     assert_eq!(both(&with16(&S, 30, 0x4000)), (7, 7));
     assert_eq!(both(&with32(&S, 60, 60)), (5, 2));
+}
+
+/// T with another gap after the names; the gap is not zero.
+fn gapped_t(gap: usize) -> Vec<u8> {
+    let parts = &T[76..97];
+    let mut record = [&T[..74], &vec![0xEE; gap], parts].concat();
+    record.resize(record.len().next_multiple_of(4), 0xEE);
+    let length = record.len() as u32 + 4;
+    record.extend(length.to_le_bytes());
+    let first = 74 + gap as u32;
+    let places = [(0, length), (44, first), (36, first + 12), (52, first + 18)];
+    places.iter().fold(record, |r, (at, n)| with32(&r, *at, *n))
+}
+
+#[test]
+fn gaps_before_the_first_part() {
+    for (gap, length) in [(0, 100), (1, 100), (2, 104), (8, 108), (40, 140)] {
+        let record = gapped_t(gap);
+        let read = step(&record, 0).unwrap();
+        assert_eq!(record.len(), length);
+        let places = [read.sid_at, read.strings_at, read.event_data_at];
+        assert_eq!(places, [74, 86, 92].map(|at| at + gap));
+        assert_eq!(step_back(&record, length), Ok(read));
+        assert_eq!(
+            (read.sid, read.string(0), read.event_data),
+            (&SID[..], Some(&OK[..]), &[0; 3][..])
+        );
+        // Written again it is T.
+        assert_eq!(written(&t_event()), T);
+    }
+    // An offset inside the names, or past Length2, and a gap between later parts.
+    for at in [0, 56, 68, 73, 100, 104, u32::MAX] {
+        assert_eq!(fields(&with32(&T, 44, at)), [(10, 44); 2]);
+    }
+    assert_eq!(fields(&with32(&gapped_t(8), 36, 95)), [(11, 36); 2]);
+    assert_eq!(fields(&with32(&gapped_t(8), 52, 101)), [(12, 48); 2]);
+    // Without a SID the strings come first, without strings the data.
+    let no_sid = with32(&T, 40, 0);
+    assert_eq!(fields(&no_sid), [(0, 0); 2]);
+    assert_eq!(step(&no_sid, 0).unwrap().sid_at, 88);
+    let data_alone = with16(&no_sid, 26, 0);
+    let read = step(&data_alone, 0).unwrap();
+    assert_eq!([read.sid_at, read.strings_at, read.event_data_at], [94; 3]);
+    assert_eq!(fields(&with32(&no_sid, 36, 73)), [(11, 36); 2]);
+    assert_eq!(fields(&with32(&data_alone, 52, 73)), [(12, 48); 2]);
+    // Four bytes more before Length2 are too many behind a part, and gap without one.
+    let longer = [&T[..100], &[0; 4], &108u32.to_le_bytes()[..]].concat();
+    let longer = with32(&longer, 0, 108);
+    assert_eq!(fields(&longer), [(13, 0); 2]);
+    let gap_alone = with32(&with16(&with32(&longer, 40, 0), 26, 0), 48, 0);
+    let read = step(&gap_alone, 0).unwrap();
+    assert_eq!([read.sid_at, read.strings_at, read.event_data_at], [104; 3]);
 }
 
 #[test]
@@ -319,15 +374,18 @@ fn size_zero() {
 fn listings() {
     let log = s_t();
     assert_eq!(listing(&log), "records 2\n0 64 7\n64 104 8\n");
-    assert_eq!(listing(&log[..167]), "refused 3 at 64\n");
+    assert_eq!(listing(&log[..167]), "refused 3 at 64 field 0\n");
     assert_eq!(listing(&[]), "records 0\n");
-    assert_eq!(listing(&vec![0; 65_537]), "refused 16 at 0\n");
-    assert_eq!(listing(&vec![0; 65_536]), "refused 2 at 0\n");
+    assert_eq!(listing(&vec![0; 65_537]), "refused 16 at 0 field 0\n");
+    assert_eq!(listing(&vec![0; 65_536]), "refused 2 at 0 field 0\n");
     // 1024 times S fills the program's buffer to the last byte.
     let full = S.repeat(1024);
     assert!(listing(&full).starts_with("records 1024\n0 64 7\n64 64 7\n"));
     assert!(listing(&full).ends_with("\n65472 64 7\n"));
-    assert_eq!(listing(&[&full[..], &S].concat()), "refused 16 at 0\n");
+    assert_eq!(
+        listing(&[&full[..], &S].concat()),
+        "refused 16 at 0 field 0\n"
+    );
     // So does one record, the longest that the program lists.
     let one = written(&Event {
         source_name: &[b'a', 0].repeat(32_736),
@@ -336,9 +394,9 @@ fn listings() {
     assert_eq!(listing(&one), "records 1\n0 65536 7\n");
     // Length is still judged up to its own limit: a longer one is cut short.
     for (length, text) in [
-        (65_540, "refused 3 at 0\n"),
-        (262_140, "refused 3 at 0\n"),
-        (262_144, "refused 2 at 0\n"),
+        (65_540, "refused 3 at 0 field 0\n"),
+        (262_140, "refused 3 at 0 field 0\n"),
+        (262_144, "refused 2 at 0 field 0\n"),
     ] {
         assert_eq!(listing(&with32(&one, 0, length)), text);
     }
