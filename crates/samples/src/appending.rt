@@ -1,4 +1,4 @@
-// Appending: the refusal, how much of the log is used then, and the log.
+// Appending: the refusal, its field, how much of the log is used then, and the log.
 
 use crate::records::numbers;
 use crate::records::numbers_of_u;
@@ -22,7 +22,8 @@ fn append_u(what: &[u8], log: &mut [u8], used: usize) {
         b"A\0\0\0\0\0T\0a\0r\0e\0\0\0",
         b"\xd1\xd2\xd3\xd4\xd5",
     );
-    line(what, &[a.refusal as u64, a.used as u64]);
+    let k = a.refusal;
+    line(what, &[k.number as u64, k.field as u64, a.used as u64]);
 }
 
 // Appends an event with no parts, every number 0 but the type.
@@ -42,7 +43,8 @@ fn append_flags(what: &[u8], kind: u16, flags: u16, log: &mut [u8], used: usize)
         reserved_flags: flags,
     };
     let a = append::append(log, used, f, b"", b"", b"", b"", b"");
-    line(what, &[a.refusal as u64, a.used as u64]);
+    let k = a.refusal;
+    line(what, &[k.number as u64, k.field as u64, a.used as u64]);
 }
 
 // The number and the start of the record that ends at a place.
@@ -52,7 +54,7 @@ fn last(log: &[u8], end: usize) {
             b"  the last record's number and start",
             &[a.fields.record_number as u64, a.start as u64],
         ),
-        Step::Refused { number: k, at: p } => line(b"  refused", &[k as u64, p as u64]),
+        Step::Refused { refusal: k, at: p } => line(b"  refused", &[k.number as u64, p as u64]),
     }
 }
 
@@ -81,6 +83,18 @@ fn refusals() {
     show_log(&log);
 }
 
+// 14 has the field of the last record that failed.
+fn broken_ends() {
+    let mut log = [0xaau8; 130];
+    put(&mut log, 0, &s());
+    put(&mut log, 24, b"\x03");
+    append_empty(b"behind a type of 3", 0, &mut log, 64);
+    put(&mut log, 24, b"\0");
+    put(&mut log, 58, b"\x01");
+    append_empty(b"behind a computer name that has no end", 0, &mut log, 64);
+    show_log(&log);
+}
+
 fn show_log(log: &[u8; 130]) {
     bytes(b"  the log", log);
 }
@@ -104,5 +118,6 @@ pub fn appending() {
     topic(b"appending");
     grow();
     refusals();
+    broken_ends();
     last_number();
 }

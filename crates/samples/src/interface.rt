@@ -13,7 +13,8 @@ use eventlog::Stepped;
 use format::Part;
 
 fn stepped(what: &[u8], x: Stepped) {
-    line(what, &[x.refusal as u64, x.at as u64]);
+    let k = x.refusal;
+    line(what, &[k.number as u64, k.field as u64, x.at as u64]);
     show_record(b"  found", x.found);
 }
 
@@ -25,8 +26,9 @@ fn step_back(what: &[u8], log: &[u8; 284], end: usize) {
     stepped(what, eventlog::eventlog_step_back(log, end));
 }
 
-fn refusal(log: &[u8; 284], at: usize) -> u64 {
-    eventlog::eventlog_refusal(log, at) as u64
+fn refusal(what: &[u8], log: &[u8; 284], at: usize) {
+    let k = eventlog::eventlog_refusal(log, at);
+    line(what, &[k.number as u64, k.field as u64]);
 }
 
 fn steps() {
@@ -35,22 +37,18 @@ fn steps() {
     step(b"step at 65", &log, 65);
     step_back(b"step back at 168", &log, 168);
     step_back(b"step back at 65", &log, 65);
-    line(
-        b"refusals at 64, 65, 284",
-        &[refusal(&log, 64), refusal(&log, 65), refusal(&log, 284)],
-    );
+    refusal(b"refusal at 64", &log, 64);
+    refusal(b"refusal at 65", &log, 65);
+    refusal(b"refusal at 284", &log, 284);
 }
 
 fn string(what: &[u8], at: usize, k: u32) {
     let log = log();
     let p = eventlog::eventlog_string(&log, at, k);
+    let x = eventlog::eventlog_string_refusal(&log, at, k);
     line(
         what,
-        &[
-            eventlog::eventlog_string_refusal(&log, at, k) as u64,
-            p.at as u64,
-            p.len as u64,
-        ],
+        &[x.number as u64, x.field as u64, p.at as u64, p.len as u64],
     );
 }
 
@@ -82,6 +80,13 @@ fn next_strings() {
     next_string(b"next string at 262", &log, run, 262);
 }
 
+// The log with another type in T, walked.
+fn damaged() {
+    let mut log = log();
+    stores::put(&mut log, 88, b"\x03");
+    walks(b"walks of the log with type 3 in T", &log, 284);
+}
+
 fn walks(what: &[u8], log: &[u8; 284], end: usize) {
     let s = part(log, 0, end);
     let w = eventlog::eventlog_walk(s);
@@ -90,10 +95,12 @@ fn walks(what: &[u8], log: &[u8; 284], end: usize) {
         what,
         &[
             w.count as u64,
-            w.refusal as u64,
+            w.refusal.number as u64,
+            w.refusal.field as u64,
             w.at as u64,
             b.count as u64,
-            b.refusal as u64,
+            b.refusal.number as u64,
+            b.refusal.field as u64,
             b.at as u64,
         ],
     );
@@ -125,7 +132,8 @@ fn writes() {
         b"A\0\0\0\0\0\0\0",
         b"\xd1",
     );
-    line(b"append", &[a.refusal as u64, a.used as u64]);
+    let k = a.refusal;
+    line(b"append", &[k.number as u64, k.field as u64, a.used as u64]);
     bytes(b"  the log", &log);
 }
 
@@ -178,6 +186,7 @@ pub fn interface() {
     next_strings();
     walks(b"walks", &log, 284);
     walks(b"walks without the last byte", &log, 283);
+    damaged();
     writes();
     reads();
     listing(b"listing into 35 bytes", &log, &mut [0xaau8; 35]);

@@ -3,8 +3,8 @@
 use crate::reading::refusals;
 use stores::put;
 
-// Its SID is printed in part only. The record is refused whatever the SID's bytes are: its offset, 106, is
-// not where the order puts it, and the other places follow from it.
+// Its SID is printed in part only: with zeros there it is no SID, and with a well-formed one the parts end four
+// bytes before Length2.
 pub fn published() {
     let mut r = [0u8; 168];
     put(
@@ -29,4 +29,6 @@ pub fn published() {
     );
     put(&mut r, 164, b"\xa8");
     refusals(b"the record of MS-EVEN 4.2", &r);
+    put(&mut r, 106, b"\x01\x01");
+    refusals(b"the same with a well-formed SID", &r);
 }

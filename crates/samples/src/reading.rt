@@ -10,6 +10,7 @@ use crate::show::line;
 use crate::show::topic;
 use format::Part;
 use format::Record;
+use format::Refusal;
 use format::Step;
 use stores::put;
 
@@ -64,25 +65,35 @@ fn step_back(what: &[u8], log: &[u8; 284], end: usize) {
 fn show_step(what: &[u8], x: Step) {
     match x {
         Step::Found(a) => show_record(what, a),
-        Step::Refused { number: k, at: p } => line(what, &[k as u64, p as u64]),
+        Step::Refused { refusal: k, at: p } => {
+            line(what, &[k.number as u64, k.field as u64, p as u64])
+        }
     }
 }
 
 // The refusal of the record that ends at a place.
-pub fn refusal_back(r: &[u8], end: usize) -> u32 {
+pub fn refusal_back(r: &[u8], end: usize) -> Refusal {
     match record::step_back(r, end) {
-        Step::Found(_) => 0,
-        Step::Refused { number: k, at: _ } => k,
+        Step::Found(_) => Refusal {
+            number: 0,
+            field: 0,
+        },
+        Step::Refused { refusal: k, at: _ } => k,
     }
 }
 
-// The refusals of the record that fills the buffer: of the step at its start, and of the step from its end.
+// The refusals of the record that fills the buffer, each with its field: of the step at its start, and of the
+// step from its end.
 pub fn refusals(what: &[u8], r: &[u8]) {
+    let f = record::refusal(r, 0);
+    let b = refusal_back(r, r.len());
     line(
         what,
         &[
-            record::refusal(r, 0) as u64,
-            refusal_back(r, r.len()) as u64,
+            f.number as u64,
+            f.field as u64,
+            b.number as u64,
+            b.field as u64,
         ],
     );
 }
@@ -217,6 +228,49 @@ fn sizes() {
     refusals(b"S with a string", &r);
 }
 
+// T with a gap of eight bytes after its names (Rule 2.12).
+fn gapped() -> [u8; 108] {
+    let t = t();
+    let mut r = [0xeeu8; 108];
+    put(&mut r, 0, part(&t, 0, 74));
+    put(&mut r, 82, part(&t, 76, 97));
+    put(&mut r, 0, b"\x6c");
+    put(&mut r, 36, b"\x5e");
+    put(&mut r, 44, b"\x52");
+    put(&mut r, 52, b"\x64");
+    put(&mut r, 104, b"\x6c\0\0\0");
+    r
+}
+
+// T with no gap there.
+fn gapless() -> [u8; 100] {
+    let t = t();
+    let mut r = [0u8; 100];
+    put(&mut r, 0, part(&t, 0, 74));
+    put(&mut r, 74, part(&t, 76, 97));
+    put(&mut r, 0, b"\x64");
+    put(&mut r, 36, b"\x56");
+    put(&mut r, 44, b"\x4a");
+    put(&mut r, 52, b"\x5c");
+    put(&mut r, 96, b"\x64");
+    r
+}
+
+fn gaps() {
+    let mut r = gapped();
+    show_step(b"T with a gap of eight bytes", record::step(&r, 0));
+    show_step(b"the same from the rear", record::step_back(&r, 108));
+    put(&mut r, 36, b"\x5f");
+    refusals(b"the same with a string offset of 95", &r);
+    show_step(b"T with no gap", record::step(&gapless(), 0));
+    let mut s = s();
+    put(&mut s, 26, b"\x01");
+    put(&mut s, 36, b"\x38");
+    refusals(b"S with a string inside its names", &s);
+    put(&mut s, 36, b"\xff");
+    refusals(b"S with a string past its end", &s);
+}
+
 fn many(what: &[u8], r: &[u8; 580], n: usize) {
     refusals(what, part(r, 0, n));
 }
@@ -255,13 +309,10 @@ fn most_data() {
 // Where string k of the record at a place of the log lies, its refusal, and its bytes.
 fn show_string(what: &[u8], log: &[u8; 284], at: usize, k: u32) {
     let p = parts::string_part(log, at, k);
+    let x = parts::string_refusal(log, at, k);
     line(
         what,
-        &[
-            parts::string_refusal(log, at, k) as u64,
-            p.at as u64,
-            p.len as u64,
-        ],
+        &[x.number as u64, x.field as u64, p.at as u64, p.len as u64],
     );
     bytes(b"  its bytes", parts::string(log, at, k));
 }
@@ -276,6 +327,9 @@ fn strings_by_number() {
     show_string(b"string 3 of U", &log, 168, 3);
     show_string(b"string 4294967295 of U", &log, 168, 0xffff_ffff);
     show_string(b"string 0 at 1", &log, 1, 0);
+    let mut other = log;
+    put(&mut other, 88, b"\x03");
+    show_string(b"string 0 of T with type 3", &other, 64, 0);
 }
 
 // The string that starts at a place of a run of the log: its refusal, where it lies, and the place after it.
@@ -351,6 +405,7 @@ pub fn reading() {
     names_and_sids();
     strings_and_data();
     sizes();
+    gaps();
     many_strings();
     most_data();
     published();

@@ -40,7 +40,7 @@ fn show(what: &[u8], a: Answer, out: &[u8]) {
     let w = walk::front(part(out, 0, n));
     line(
         b"  records in the output, and their refusal",
-        &[w.count as u64, w.refusal as u64],
+        &[w.count as u64, w.refusal.number as u64],
     );
     // a record's Length, signature and number
     bytes(b"  the output's start", part(out, 0, 12));

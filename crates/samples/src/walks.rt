@@ -1,11 +1,15 @@
-// Walks: how many records, the refusal that ended the walk, and where it stopped.
+// Walks: how many records, the refusal that ended the walk with its field, and where it stopped.
 
 use crate::records::log;
 use crate::records::part;
+use crate::records::t;
 use crate::show::line;
 use crate::show::topic;
+use format::Direction;
+use format::Walked;
 use judge::Verdict;
 use stores::put;
+use walk::Stop;
 
 // The walks of the log's bytes from one place up to another.
 fn walks_of(what: &[u8], log: &[u8; 284], at: usize, end: usize) {
@@ -17,15 +21,22 @@ fn walks(what: &[u8], s: &[u8]) {
     let r = walk::rear(s);
     let w = walk::walk(s);
     let b = walk::walk_back(s);
-    line(what, &[w.count as u64, w.refusal as u64]);
+    walked(what, w);
+    stopped(b"  the front's stop", f);
+    walked(b"  back", b);
+    stopped(b"  the rear's stop", r);
+}
+
+fn walked(what: &[u8], w: Walked) {
+    let k = w.refusal;
+    line(what, &[w.count as u64, k.number as u64, k.field as u64]);
+}
+
+fn stopped(what: &[u8], w: Stop) {
+    let k = w.refusal;
     line(
-        b"  the front's stop",
-        &[f.count as u64, f.refusal as u64, f.at as u64],
-    );
-    line(b"  back", &[b.count as u64, b.refusal as u64]);
-    line(
-        b"  the rear's stop",
-        &[r.count as u64, r.refusal as u64, r.at as u64],
+        what,
+        &[w.count as u64, k.number as u64, k.field as u64, w.at as u64],
     );
 }
 
@@ -40,7 +51,7 @@ fn damaged(what: &[u8], at: usize, v: u8) {
 fn verdict(what: &[u8], v: Verdict) {
     match v {
         Verdict::Accepted(n) => line(what, &[n as u64]),
-        Verdict::Refused(k) => line(what, &[0, k as u64]),
+        Verdict::Refused(k) => line(what, &[0, k.number as u64, k.field as u64]),
     }
 }
 
@@ -54,7 +65,8 @@ fn judged_back(what: &[u8], log: &[u8; 284], end: usize) {
 
 // The refusal of the log's bytes from one place up to another as one whole record.
 fn whole(log: &[u8; 284], at: usize, end: usize) -> u64 {
-    rules::refusal(part(log, at, end)) as u64
+    let k = rules::refusal(Direction::Forwards, part(log, at, end));
+    k.number as u64
 }
 
 fn verdicts() {
@@ -76,6 +88,24 @@ fn verdicts() {
     );
 }
 
+// The field of 5 goes by the direction.
+fn unequal() {
+    let mut s = t();
+    put(&mut s, 0, b"\x64");
+    let f = rules::refusal(Direction::Forwards, &s);
+    let b = rules::refusal(Direction::Backwards, &s);
+    line(
+        b"T with Length 100 as a whole record, met forwards and backwards",
+        &[
+            f.number as u64,
+            f.field as u64,
+            b.number as u64,
+            b.field as u64,
+        ],
+    );
+    verdict(b"judged back", judge::judge_back(&s, 104));
+}
+
 pub fn walking() {
     let log = log();
     topic(b"walks");
@@ -90,4 +120,5 @@ pub fn walking() {
     damaged(b"S, T, U with another type in S", 24, 3);
     damaged(b"S, T, U with another type in U", 192, 3);
     verdicts();
+    unequal();
 }

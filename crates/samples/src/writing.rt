@@ -259,8 +259,8 @@ fn long(what: &[u8], source: &[u8], event_data: &[u8], out: &mut [u8]) {
         line(
             b"  read again, and from the rear",
             &[
-                record::refusal(out, 0) as u64,
-                refusal_back(out, w.length) as u64,
+                record::refusal(out, 0).number as u64,
+                refusal_back(out, w.length).number as u64,
             ],
         );
     }

@@ -23,7 +23,7 @@ fn line(what: &[u8], a: u64, b: u64) {
 fn refusal_back(s: &[u8], end: usize) -> u64 {
     match record::step_back(s, end) {
         Step::Found(_) => 0,
-        Step::Refused { number: k, at: _ } => k as u64,
+        Step::Refused { refusal: k, at: _ } => k.number as u64,
     }
 }
 
@@ -43,7 +43,11 @@ fn string_head() -> [u8; 60] {
 }
 
 fn refusals(what: &[u8], r: &[u8]) {
-    line(what, record::refusal(r, 0) as u64, refusal_back(r, r.len()));
+    line(
+        what,
+        record::refusal(r, 0).number as u64,
+        refusal_back(r, r.len()),
+    );
 }
 
 // A record of ones, as long as the buffer, with this start: its only text runs up to Length2.
@@ -154,7 +158,7 @@ fn append(what: &[u8], source: &[u8], strings: &[u8; 100000], log: &mut [u8]) {
         strings,
         &[3u8; 61440],
     );
-    line(what, a.refusal as u64, a.used as u64);
+    line(what, a.refusal.number as u64, a.used as u64);
 }
 
 // A read of one record, and the number of the record at the output's start.
@@ -164,25 +168,25 @@ fn read(what: &[u8], log: &[u8], flags: u32, out: &mut [u8]) {
     line(
         b"  its number, and its refusal",
         numbers::u32_at(out, 8) as u64,
-        record::refusal(out, 0) as u64,
+        record::refusal(out, 0).number as u64,
     );
 }
 
 fn answers(log: &[u8]) {
     line(
         b"the first record, from its start and its end",
-        record::refusal(log, 0) as u64,
+        record::refusal(log, 0).number as u64,
         refusal_back(log, 262140),
     );
     line(
         b"the second record, from its start and its end",
-        record::refusal(log, 262140) as u64,
+        record::refusal(log, 262140).number as u64,
         refusal_back(log, 524280),
     );
     let w = walk::walk(log);
-    line(b"walk", w.count as u64, w.refusal as u64);
+    line(b"walk", w.count as u64, w.refusal.number as u64);
     let b = walk::walk_back(log);
-    line(b"walk back", b.count as u64, b.refusal as u64);
+    line(b"walk back", b.count as u64, b.refusal.number as u64);
     read(b"forwards", log, 5, &mut [0u8; 262140]);
     read(b"backwards", log, 9, &mut [0u8; 262140]);
 }
