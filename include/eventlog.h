@@ -38,16 +38,19 @@
  *       52      4  DataOffset
  *       56         SourceName and its zero unit
  *                  Computername and its zero unit
- *                  a gap, at most 3 bytes, to a multiple of 4
+ *                  a gap of any length
  *                  the SID
  *                  the strings, each with its zero unit
  *                  the data
- *                  a gap, at most 3 bytes, to a multiple of 4
+ *                  a gap, at most 3 bytes, to a multiple of 4; none where neither SID nor strings nor data is
+ *                  present
  *               4  Length2, which holds the number of Length
  *
  * A gap has any bytes in it. A SID with n sub-authorities, n from 0 to 15, has 8 + 4n bytes; its first byte is 1
  * and its second n. SID, strings and data may be absent, their length or count being 0; then their offset may be
- * any number, else it is the part's place in this order.
+ * any number, else it is the part's place in this order. So the first of them that is present starts wherever its
+ * offset says, at or after the end of the names, and the others follow without a gap. Writing makes the gap after the
+ * names 0 to 3 bytes long, to a multiple of 4 (Rules 2.12 and 6.9).
  *
  * Cost: a record's names and strings are looked at unit by unit, its data and gaps not at all. So a call is
  * linear in the names and strings of the records that it looks at, and in the bytes that it copies; each says
@@ -182,8 +185,8 @@ typedef struct {
 } eventlog_part;
 
 /* A record: where it starts, its Length, its fields and where its parts lie in the buffer. A name lies without
- * its zero unit, the strings lie with theirs, as one part; an absent part lies where the order would put it, with
- * length 0. */
+ * its zero unit, the strings lie with theirs, as one part; an absent part has length 0 and lies where the parts before
+ * it end, an absent SID where the first present part starts, and all three at Length2 where none is present. */
 typedef struct {
     size_t start;
     size_t length;
@@ -449,7 +452,8 @@ static inline eventlog_bytes eventlog_bytes_of(const uint8_t *buffer, eventlog_p
 }
 
 /* The event of a record that was found in the buffer: to be written or appended again. Its parts are the
- * buffer's own bytes. */
+ * buffer's own bytes. Written again, its record is at most four bytes longer than the one that was found; where that
+ * would be above EVENTLOG_MAX_LENGTH, it is refused with 2 (Rule 6.15). */
 static inline eventlog_event eventlog_event_of(const uint8_t *buffer, const eventlog_record *record)
 {
     eventlog_event event;

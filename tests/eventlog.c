@@ -280,6 +280,60 @@ static const struct {
     {__LINE__, T, 48, 2, 13, 0, 13, 0},
 };
 
+/* T with another gap after its names, over the start of a buffer that is not zero. */
+static size_t gapped_t(uint8_t *r, size_t gap)
+{
+    enum { NAMES_END = 74, PARTS = 76, DATA_END = 97 };
+    size_t first = NAMES_END + gap, end = first + (DATA_END - PARTS);
+    size_t length = (end + 3) / 4 * 4 + 4;
+    fill(r, length);
+    memcpy(r, batch + T, NAMES_END);
+    memcpy(r + first, batch + T + PARTS, DATA_END - PARTS);
+    const size_t places[][2] = {{0, length}, {44, first}, {36, first + 12}, {52, first + 18}, {length - 4, length}};
+    for (size_t i = 0; i < COUNT(places); i++)
+        for (size_t k = 0; k < 4; k++)
+            r[places[i][0] + k] = (uint8_t)(places[i][1] >> (8 * k));
+    return length;
+}
+
+/* The first part stands wherever its offset says, behind the names; the others follow it. */
+static void gaps_before_the_first_part(void)
+{
+    static const size_t gaps[][2] = {{0, 100}, {1, 100}, {2, 104}, {8, 108}, {40, 140}};
+    for (size_t i = 0; i < COUNT(gaps); i++) {
+        uint8_t r[160], again[160];
+        size_t gap = gaps[i][0], length = gapped_t(r, gap);
+        CHECK(length == gaps[i][1]);
+        eventlog_record want = record_t(0);
+        want.length = length;
+        want.sid.at = 74 + gap;
+        want.strings.at = 86 + gap;
+        want.event_data.at = 92 + gap;
+        finds(__LINE__, eventlog_step(r, length, 0), 0, want);
+        finds(__LINE__, eventlog_step_back(r, length, length), length, want);
+        /* written again it is T */
+        eventlog_event e = eventlog_event_of(r, &want);
+        eventlog_written w = eventlog_write_event(T_NUMBER, &e, again, sizeof again);
+        CHECK(w.refusal == 0 && w.length == T_LENGTH && memcmp(again, batch + T, T_LENGTH) == 0);
+        r[44] = 73;
+        step_refuses(__LINE__, eventlog_step(r, length, 0), 0, 10, 44);
+        r[44] = (uint8_t)(74 + gap);
+        r[36]++;
+        step_refuses(__LINE__, eventlog_step(r, length, 0), 0, 11, 36);
+    }
+    /* without a part, everything up to Length2 is gap */
+    uint8_t s[S_LENGTH + 8];
+    fill(s, sizeof s);
+    memcpy(s, batch + S, S_LENGTH - 4);
+    s[0] = s[sizeof s - 4] = sizeof s;
+    memset(s + sizeof s - 3, 0, 3);
+    eventlog_record want = record_s(0);
+    want.length = sizeof s;
+    want.sid.at = want.strings.at = want.event_data.at = sizeof s - 4;
+    finds(__LINE__, eventlog_step(s, sizeof s, 0), 0, want);
+    finds(__LINE__, eventlog_step_back(s, sizeof s, sizeof s), sizeof s, want);
+}
+
 static void corrupted_records_are_refused(void)
 {
     for (size_t i = 0; i < COUNT(corrupted); i++) {
@@ -1079,6 +1133,7 @@ int main(void)
     steps_find();
     steps_refuse_places();
     corrupted_records_are_refused();
+    gaps_before_the_first_part();
     strings_are_found();
     next_strings_are_found();
     walks_answer();

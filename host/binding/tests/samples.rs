@@ -396,6 +396,33 @@ fn longest_record() {
     assert_eq!(back, (Refusal::Length, 262_144));
 }
 
+/// The largest Length with no gap after the names: padded, it would be too long, so it is read and cannot be written
+/// again.
+#[test]
+fn longest_record_without_gap() {
+    let mut record = S[..56].to_vec();
+    record.extend([b'x', 0].repeat(100_319));
+    record.extend([0; 4]);
+    assert_eq!(record.len(), 200_698);
+    record.extend([0xAA; 61_438]);
+    record.extend(262_140_u32.to_le_bytes());
+    for (at, value) in [(0, 262_140_u32), (48, 61_438), (52, 200_698)] {
+        record[at..at + 4].copy_from_slice(&value.to_le_bytes());
+    }
+    let read = step(&record, 0).unwrap();
+    assert_eq!((read.length, read.places.event_data), (262_140, 200_698));
+    assert_eq!(step_back(&record, 262_140), Ok(read));
+    let mut out = vec![0xEE; 262_144];
+    assert_eq!(write(7, &read.event, &mut out), Err(Refusal::Length));
+    assert!(out.iter().all(|byte| *byte == 0xEE));
+    // Two bytes of data less, and the padded record is not longer.
+    let event = Event {
+        event_data: &read.event.event_data[..61_436],
+        ..read.event
+    };
+    assert_eq!(write(7, &event, &mut out), Ok(262_140));
+}
+
 /// The largest Length with every part: two names, a SID, as many strings and as
 /// much data as there can be.
 #[test]
