@@ -3,6 +3,9 @@
 //! The calls of Rule 1.4 of `docs/SPECIFICATION.md`: steps and walks in both
 //! directions, writing, appending, reads of a log, and the listing. Every part
 //! handed back borrows the caller's bytes; only [`listing`] allocates.
+//!
+//! The crate `simple` is this library with the feature `simple-search`: all the
+//! same, over a search for zero units that is not tuned.
 
 #![forbid(unsafe_code)]
 #![warn(missing_docs)]
@@ -11,6 +14,10 @@ mod judge;
 mod layout;
 mod listing;
 mod record;
+#[cfg_attr(feature = "simple-search", path = "simple_search.rs")]
+mod search;
+#[cfg(test)]
+mod search_tests;
 mod serve;
 mod walk;
 mod write;
@@ -24,6 +31,7 @@ pub use record::{
     computer_name, event_data, next_string, refusal, sid, source_name, step, step_back, string,
     string_refusal, NextString, Record, Refusal,
 };
+pub use search::after_zero_units;
 pub use serve::{flags, status, Answer, Handle, Place, MAX_READ};
 pub use walk::{walk, walk_back, Walked};
 pub use write::{append, write, Event};

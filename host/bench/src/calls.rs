@@ -1,0 +1,148 @@
+//! The calls that are measured, by the same names in each library.
+
+/// The proved library, through the binding; and its searches by themselves.
+pub mod proved {
+    use eventlog::{Handle, Status, StoppedWalk};
+
+    /// How many records a walk found; the batches are good.
+    fn counted(walked: Result<usize, StoppedWalk>) -> usize {
+        walked.unwrap_or_else(|stopped| stopped.count)
+    }
+
+    pub fn walk(log: &[u8]) -> usize {
+        counted(eventlog::walk(log))
+    }
+
+    pub fn walk_back(log: &[u8]) -> usize {
+        counted(eventlog::walk_back(log))
+    }
+
+    /// Reads the whole log, one direction; answers the bytes read.
+    pub fn serve(log: &[u8], flags: u32, out: &mut [u8]) -> usize {
+        let mut handle = Handle::fresh();
+        let mut sum = 0;
+        loop {
+            match handle.read_with_flags(log, flags, 0, out.len(), out) {
+                Ok(batch) => {
+                    sum += batch.bytes.len();
+                    handle = batch.handle;
+                }
+                Err(error) => {
+                    assert_eq!((error.status, sum), (Status::EndOfFile, log.len()));
+                    return sum;
+                }
+            }
+        }
+    }
+
+    /// All strings of a record, after a step in turn; answers their bytes.
+    pub fn strings_in_turn(record: &[u8]) -> usize {
+        let found = eventlog::step(record, 0).expect("it is good");
+        found.strings().map(|s| s.as_bytes().len()).sum()
+    }
+
+    /// All strings of a record by number.
+    pub fn strings_by_number(record: &[u8], count: u32) -> usize {
+        (0..count)
+            .map(|k| eventlog::string(record, 0, k).map_or(0, |s| s.as_bytes().len()))
+            .sum()
+    }
+
+    unsafe extern "C" {
+        fn searches_text_len(t: *const u8, len: usize) -> usize;
+        fn searches_strings_end(t: *const u8, len: usize, count: u32) -> usize;
+    }
+
+    /// The place after the first zero unit.
+    pub fn name_end(t: &[u8]) -> usize {
+        // SAFETY: `t` is readable for its length.
+        unsafe { searches_text_len(t.as_ptr(), t.len()) + 2 }
+    }
+
+    /// The place after so many strings.
+    pub fn strings_end(t: &[u8], count: u32) -> usize {
+        // SAFETY: as in `name_end`.
+        unsafe { searches_strings_end(t.as_ptr(), t.len(), count) }
+    }
+}
+
+/// The proved searches as they were before K5, unit by unit.
+pub mod by_unit {
+    unsafe extern "C" {
+        fn searches_text_len_by_unit(t: *const u8, len: usize) -> usize;
+        fn searches_strings_end_by_unit(t: *const u8, len: usize, count: u32) -> usize;
+    }
+
+    pub fn name_end(t: &[u8]) -> usize {
+        // SAFETY: `t` is readable for its length.
+        unsafe { searches_text_len_by_unit(t.as_ptr(), t.len()) + 2 }
+    }
+
+    pub fn strings_end(t: &[u8], count: u32) -> usize {
+        // SAFETY: as in `name_end`.
+        unsafe { searches_strings_end_by_unit(t.as_ptr(), t.len(), count) }
+    }
+}
+
+/// An ordinary library.
+macro_rules! ordinary {
+    ($module:ident, $library:ident) => {
+        pub mod $module {
+            use $library::{status, Handle};
+
+            pub fn walk(log: &[u8]) -> usize {
+                $library::walk(log).count
+            }
+
+            pub fn walk_back(log: &[u8]) -> usize {
+                $library::walk_back(log).count
+            }
+
+            pub fn serve(log: &[u8], flags: u32, out: &mut [u8]) -> usize {
+                let mut handle = Handle::fresh();
+                let mut sum = 0;
+                loop {
+                    let answer = handle.read(log, flags, 0, out.len(), out);
+                    if answer.status != 0 {
+                        assert_eq!((answer.status, sum), (status::END_OF_FILE, log.len()));
+                        return sum;
+                    }
+                    sum += answer.read;
+                    handle = answer.handle;
+                }
+            }
+
+            pub fn strings_in_turn(record: &[u8]) -> usize {
+                let found = $library::step(record, 0).expect("it is good");
+                let run = (found.strings_at, found.strings.len());
+                let mut next = $library::next_string(record, run, run.0);
+                let mut sum = 0;
+                while next.refusal == 0 {
+                    sum += next.len;
+                    next = $library::next_string(record, run, next.next);
+                }
+                sum
+            }
+
+            pub fn strings_by_number(record: &[u8], count: u32) -> usize {
+                (0..count)
+                    .map(|k| $library::string(record, 0, k).len())
+                    .sum()
+            }
+
+            /// As a call, as the proved ones are.
+            #[inline(never)]
+            pub fn name_end(t: &[u8]) -> usize {
+                $library::after_zero_units(t, 0, 1).unwrap_or(0)
+            }
+
+            #[inline(never)]
+            pub fn strings_end(t: &[u8], count: u32) -> usize {
+                $library::after_zero_units(t, 0, count as usize).unwrap_or(0)
+            }
+        }
+    };
+}
+
+ordinary!(tuned, plain);
+ordinary!(untuned, simple);

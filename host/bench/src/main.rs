@@ -1,0 +1,290 @@
+//! How long the proved library takes, and two ordinary ones; run on request:
+//! `rt staticlib eventlog`, `rt staticlib searches`, and then
+//! `cargo run --release --offline -p bench`. It prints tables in Markdown.
+
+mod calls;
+mod table;
+
+use std::hint::black_box;
+
+use calls::{by_unit, proved, tuned, untuned};
+use compare::make::{text, Made, MAX_DATA};
+use compare::random::Random;
+use table::Table;
+
+/// All is measured so many times, one table after the other.
+const RUNS: usize = 5;
+const ROUNDS: usize = 20;
+/// A search is short, so that there is time for more of them.
+const SEARCH_ROUNDS: usize = 200;
+
+const BATCH: usize = 16 << 20;
+/// What a read asks for, where a record fits.
+const READ: usize = 64 << 10;
+/// Names alone are short work: many walks of one record.
+const NAME_WALKS: usize = 1000;
+const STRINGS: usize = 256;
+/// So many units of texts are searched in a round, one text after the other.
+const SEARCHED: usize = 60_000;
+/// Bytes behind a text that is searched, as a record has them.
+const BEHIND: usize = 200;
+
+/// Records of about this Length, as many as fit into a batch.
+fn batch(rng: &mut Random, length: usize) -> Vec<u8> {
+    let mut out = Vec::with_capacity(BATCH);
+    for number in 1.. {
+        let mut made = Made::default();
+        made.fields.record_number = number;
+        if length < 500 {
+            made.source = text(rng, 5);
+            made.computer = text(rng, 4);
+        } else {
+            made.source = text(rng, 12);
+            made.computer = text(rng, 10);
+            made.sid = [&[1, 5][..], &rng.bytes(26)].concat();
+            // What the data cannot take is in the strings.
+            match length > MAX_DATA {
+                true => push_strings(&mut made, rng, STRINGS, 391),
+                false => push_strings(&mut made, rng, 6, 20),
+            }
+        }
+        let more = length.saturating_sub(made.length()) + rng.below(16);
+        made.data = rng.bytes(more);
+        if out.len() + made.length() > BATCH {
+            break;
+        }
+        out.extend(made.encode(None));
+    }
+    out
+}
+
+/// So many strings, all of this length.
+fn push_strings(made: &mut Made, rng: &mut Random, count: usize, units: usize) {
+    for _ in 0..count {
+        made.strings.extend(text(rng, units));
+        made.strings.extend([0, 0]);
+        made.fields.num_strings += 1;
+    }
+}
+
+/// Walks and reads of a batch of such records.
+fn batch_rows(table: &mut Table<3>, name: &str, log: &[u8]) {
+    table.row(
+        &format!("walk, records of {name}"),
+        ROUNDS,
+        1.0,
+        &mut [
+            &mut || proved::walk(black_box(log)),
+            &mut || tuned::walk(black_box(log)),
+            &mut || untuned::walk(black_box(log)),
+        ],
+    );
+    table.row(
+        &format!("walk back, {name}"),
+        ROUNDS,
+        1.0,
+        &mut [
+            &mut || proved::walk_back(black_box(log)),
+            &mut || tuned::walk_back(black_box(log)),
+            &mut || untuned::walk_back(black_box(log)),
+        ],
+    );
+    let size = match plain::judge(log, 0) {
+        Ok(length) if length <= READ => READ,
+        _ => plain::MAX_READ,
+    };
+    let mut outs = [(); 3].map(|()| vec![0; size]);
+    let [a, b, c] = &mut outs;
+    for (direction, flags) in [("forwards", 5), ("backwards", 9)] {
+        table.row(
+            &format!("read {direction}, {name}"),
+            ROUNDS,
+            1.0,
+            &mut [
+                &mut || proved::serve(black_box(log), flags, a),
+                &mut || tuned::serve(black_box(log), flags, b),
+                &mut || untuned::serve(black_box(log), flags, c),
+            ],
+        );
+    }
+}
+
+/// Many walks of one record with a long name.
+fn name_row(table: &mut Table<3>, record: &[u8]) {
+    let times = |walk: fn(&[u8]) -> usize| {
+        let walks = 0..NAME_WALKS;
+        walks.map(|_| walk(black_box(record))).sum::<usize>()
+    };
+    table.row(
+        "a name of 30,000 units, 1,000 walks",
+        ROUNDS,
+        1.0,
+        &mut [
+            &mut || times(proved::walk),
+            &mut || times(tuned::walk),
+            &mut || times(untuned::walk),
+        ],
+    );
+}
+
+/// All strings of one record, after a step in turn, and each by its number.
+fn string_rows(table: &mut Table<3>, record: &[u8]) {
+    table.row(
+        "256 strings of 64 KiB: a step, and then in turn",
+        SEARCH_ROUNDS,
+        1.0,
+        &mut [
+            &mut || proved::strings_in_turn(black_box(record)),
+            &mut || tuned::strings_in_turn(black_box(record)),
+            &mut || untuned::strings_in_turn(black_box(record)),
+        ],
+    );
+    let count = STRINGS as u32;
+    table.row(
+        "the same strings, by number",
+        ROUNDS,
+        1.0,
+        &mut [
+            &mut || proved::strings_by_number(black_box(record), count),
+            &mut || tuned::strings_by_number(black_box(record), count),
+            &mut || untuned::strings_by_number(black_box(record), count),
+        ],
+    );
+}
+
+/// Runs of strings to be searched, at even and at odd addresses.
+struct Runs {
+    name: String,
+    strings: u32,
+    runs: Vec<Vec<u8>>,
+}
+
+impl Runs {
+    /// Strings of these lengths.
+    fn new(
+        rng: &mut Random,
+        name: &str,
+        strings: u32,
+        units: std::ops::RangeInclusive<usize>,
+    ) -> Runs {
+        let (low, high) = units.into_inner();
+        let mean = (low + high) / 2 * strings as usize;
+        let mut runs = Vec::new();
+        for i in 0..SEARCHED.div_ceil(mean).clamp(2, 1000) {
+            let mut run = vec![0xEE; i % 2];
+            for _ in 0..strings {
+                let units = rng.range(low, high);
+                run.extend(text(rng, units));
+                run.extend([0, 0]);
+            }
+            run.extend([0xEE; BEHIND]);
+            runs.push(run);
+        }
+        Runs {
+            name: name.into(),
+            strings,
+            runs,
+        }
+    }
+
+    /// The sum of what the searches answer.
+    fn sum(&self, search: impl Fn(&[u8]) -> usize) -> usize {
+        let runs = self.runs.iter().enumerate();
+        runs.map(|(i, run)| search(black_box(&run[i % 2..]))).sum()
+    }
+
+    fn row(&self, table: &mut Table<4>, works: [fn(&[u8], u32) -> usize; 4]) {
+        let parts = self.runs.len() as f64;
+        let [a, b, c, d] = works.map(|search| move || self.sum(|t| search(t, self.strings)));
+        let (mut a, mut b, mut c, mut d) = (a, b, c, d);
+        let works = &mut [&mut a as _, &mut b as _, &mut c as _, &mut d as _];
+        table.row(&self.name, SEARCH_ROUNDS, parts, works);
+    }
+}
+
+fn search_rows(table: &mut Table<4>, names: &[Runs], strings: &[Runs]) {
+    for runs in names {
+        runs.row(
+            table,
+            [
+                |t, _| proved::name_end(t),
+                |t, _| by_unit::name_end(t),
+                |t, _| tuned::name_end(t),
+                |t, _| untuned::name_end(t),
+            ],
+        );
+    }
+    for runs in strings {
+        runs.row(
+            table,
+            [
+                proved::strings_end,
+                by_unit::strings_end,
+                tuned::strings_end,
+                untuned::strings_end,
+            ],
+        );
+    }
+}
+
+fn main() {
+    let mut rng = Random::new(1);
+    let rng = &mut rng;
+    let batches = [
+        ("100 bytes", 100),
+        ("1 KiB", 1024),
+        ("60 KiB", 60 << 10),
+        ("256 KiB", 262_100),
+    ]
+    .map(|(name, length)| (name, batch(rng, length)));
+    let long_name = Made {
+        source: text(rng, 30_000),
+        ..Made::default()
+    };
+    let long_name = long_name.encode(None);
+    let mut many_strings = Made::default();
+    push_strings(&mut many_strings, rng, STRINGS, 126);
+    let many_strings = many_strings.encode(None);
+
+    let lengths = [(8, "8"), (30, "30"), (300, "300"), (30_000, "30,000")];
+    let mut of_length = |what: &str| -> Vec<Runs> {
+        let runs =
+            lengths.map(|(n, units)| Runs::new(rng, &format!("{what} of {units} units"), 1, n..=n));
+        runs.into()
+    };
+    let (mut names, mut strings) = (of_length("a name"), of_length("a string"));
+    names.push(Runs::new(
+        rng,
+        "a name of 5 to 12 units, at random",
+        1,
+        5..=12,
+    ));
+    strings.push(Runs::new(
+        rng,
+        "6 strings of 0 to 20 units, at random",
+        6,
+        0..=20,
+    ));
+
+    let mut searches = Table::new(["proved", "by unit", "plain", "simple"]);
+    let mut calls = Table::new(["proved", "plain", "simple"]);
+    for run in 1..=RUNS {
+        eprintln!("run {run} of {RUNS}");
+        search_rows(&mut searches, &names, &strings);
+        for (name, log) in &batches {
+            batch_rows(&mut calls, name, log);
+        }
+        name_row(&mut calls, &long_name);
+        string_rows(&mut calls, &many_strings);
+    }
+    println!(
+        "One search, in ns. Ranges over {RUNS} runs of the minima of {SEARCH_ROUNDS} rounds.\n"
+    );
+    searches.print(1e-9);
+    println!("Calls, in ms. Ranges over {RUNS} runs of the minima of {ROUNDS} rounds and more.");
+    println!(
+        "A batch has 16 MiB; reads ask 64 KiB, those of records of 256 KiB all that a read may,"
+    );
+    println!("524,287 bytes; the output is not cleared between reads.\n");
+    calls.print(1e-3);
+}

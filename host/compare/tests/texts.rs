@@ -1,0 +1,134 @@
+//! The search for the zero unit: texts of every length up to some blocks of the
+//! proved search, a zero unit at every place of them, few and many bytes behind
+//! them, and all of it at even and at odd places of the buffer.
+
+use std::ops::Range;
+
+use compare::check::Check;
+use compare::make::{text, Made};
+use compare::random::Random;
+
+/// The proved search passes blocks of 4 units in a name and of 8 in strings, and
+/// blocks of 64 after 32 units: two blocks of each, and some units more.
+const UNITS: usize = 32 + 2 * 64 + 2 * 8 + 3;
+
+/// Bytes behind a text: none, fewer than a block of each size has, and more.
+const BEHIND: [usize; 6] = [0, 3, 7, 15, 120, 300];
+
+/// Where a record starts in its buffer.
+const STARTS: [usize; 2] = [0, 1];
+
+/// A source name, a computer name, the first and the last string.
+const TEXTS: usize = 4;
+
+fn check(what: &str) -> (Random, Check) {
+    (Random::new(5), Check::new(what.into()))
+}
+
+/// An event with one long text, and where that lies in its record.
+fn event(rng: &mut Random, which: usize, units: usize, behind: usize) -> (Made, Range<usize>) {
+    let mut texts = [2, 3, 1, 3].map(|units| text(rng, units));
+    texts[which] = text(rng, units);
+    let len = texts[which].len();
+    // After short names the strings start at 72.
+    let at = [56, 56 + 6, 72, 72 + 4][which];
+    let [source, computer, first, last] = texts;
+    let mut made = Made {
+        source,
+        computer,
+        strings: [&first[..], &[0, 0], &last, &[0, 0]].concat(),
+        data: vec![0xEE; behind],
+        ..Made::default()
+    };
+    made.fields.num_strings = 2;
+    (made, at..at + len)
+}
+
+/// The record in a buffer, with bytes before and behind it.
+fn placed(made: &Made, start: usize) -> (Vec<u8>, usize) {
+    let record = made.encode(None);
+    let end = start + record.len();
+    let buffer = [&vec![0xEE; start][..], &record, &[0xEE; 9]].concat();
+    (buffer, end)
+}
+
+#[test]
+fn texts_of_every_length() {
+    let (mut rng, mut check) = check("texts of every length");
+    for units in 0..=UNITS {
+        for behind in BEHIND {
+            for which in 0..TEXTS {
+                let (made, long) = event(&mut rng, which, units, behind);
+                check.write(&made, made.length());
+                for start in STARTS {
+                    let (buffer, end) = placed(&made, start);
+                    assert_eq!(&buffer[start + long.end..][..2], [0, 0]);
+                    assert_eq!(check.step(&buffer, start), Some(2));
+                    check.step_back(&buffer, end);
+                    for k in 0..2 {
+                        check.string(&buffer, start, k);
+                    }
+                }
+            }
+        }
+    }
+}
+
+#[test]
+fn zero_bytes_at_every_place() {
+    let (mut rng, mut check) = check("zero bytes at every place");
+    for which in 0..TEXTS {
+        for (behind, start) in [(0, 0), (300, 1)] {
+            let (made, long) = event(&mut rng, which, UNITS, behind);
+            let (buffer, end) = placed(&made, start);
+            // At even places a zero unit, at odd ones the halves of two units.
+            for place in long.start..long.end - 1 {
+                let mut changed = buffer.clone();
+                changed[start + place..][..2].fill(0);
+                check.at(&changed, start);
+                check.step_back(&changed, end);
+                // Both together: the unit before and the one behind is zero too.
+                changed[start + place - 2..][..6].fill(0);
+                check.at(&changed, start);
+            }
+        }
+    }
+}
+
+#[test]
+fn events_with_a_zero_unit_at_every_place() {
+    let (mut rng, mut check) = check("events with a zero unit");
+    for which in 0..TEXTS {
+        let (made, _) = event(&mut rng, which, UNITS, 3);
+        for unit in 0..UNITS {
+            let mut changed = made.clone();
+            let (part, from) = match which {
+                0 => (&mut changed.source, 0),
+                1 => (&mut changed.computer, 0),
+                2 => (&mut changed.strings, 0),
+                _ => (&mut changed.strings, 4),
+            };
+            part[from + 2 * unit..][..2].fill(0);
+            check.write(&changed, made.length());
+        }
+    }
+}
+
+#[test]
+fn strings_of_a_run_at_every_place() {
+    let (mut rng, mut check) = check("strings of a run");
+    for start in STARTS {
+        for len in (0..=2 * UNITS).step_by(3) {
+            let mut s = text(&mut rng, UNITS + 4);
+            for place in 0..len {
+                let kept = [s[start + place], s[start + place + 1]];
+                s[start + place..][..2].fill(0);
+                for from in [start, start + 1, start + place, start + place + 2] {
+                    check.next_string(&s, (start, len), from);
+                }
+                s[start + place..][..2].copy_from_slice(&kept);
+            }
+            check.next_string(&s, (start, len), start);
+        }
+    }
+}
