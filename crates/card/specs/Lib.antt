@@ -1,0 +1,6 @@
+pub mod Check
+pub mod Block
+pub mod Image
+pub mod Judging
+pub mod Calls
+pub mod Laws
