@@ -5,3 +5,4 @@ pub mod Tests
 pub mod Blocks
 pub mod Judging
 pub mod Images
+pub mod Damage
