@@ -237,6 +237,32 @@ fn string_rows(rng: &mut Random) {
     );
 }
 
+/// A log of 16 MiB to a card's image and back. The outputs are not cleared
+/// between rounds.
+fn card_rows(rng: &mut Random) {
+    let log = rng.bytes(BATCH);
+    let log = &log[..];
+    let blocks = plain::card::blocks(log.len());
+    let mut image = vec![0; blocks * plain::card::BLOCK];
+    let mut other = image.clone();
+    row(
+        "card write, 16 MiB",
+        blocks,
+        &mut || eventlog::card::write(black_box(log), &mut image).unwrap_or(0),
+        &mut || plain::card::write(black_box(log), &mut other).unwrap_or(0),
+    );
+    assert!(image == other, "the images differ");
+    let image = &image[..];
+    let (mut out, mut other) = (vec![0; log.len()], vec![0; log.len()]);
+    row(
+        "card read, 16 MiB",
+        blocks,
+        &mut || eventlog::card::read(black_box(image), &mut out).unwrap_or(0),
+        &mut || plain::card::read(black_box(image), &mut other).unwrap_or(0),
+    );
+    assert!(out == log && other == log, "the logs differ");
+}
+
 fn main() {
     let mut rng = Random::new(1);
     println!(
@@ -244,7 +270,7 @@ fn main() {
     );
     println!("those of records of 256 KiB all that a read may, 524,287 bytes.");
     println!("The output is not cleared between reads.");
-    println!("ns are for each record, the ratio is proved / plain.");
+    println!("ns are for each record, or block of a card; the ratio is proved / plain.");
     println!(
         "{:36} {:>9} {:>9} {:>8} {:>8} {:>6}",
         "", "proved ms", "plain ms", "ns", "ns", "ratio"
@@ -259,4 +285,5 @@ fn main() {
     }
     name_row(&mut rng);
     string_rows(&mut rng);
+    card_rows(&mut rng);
 }
