@@ -49,29 +49,49 @@ fn marks() {
     );
 }
 
+// Arrays of one byte. They are made here and nowhere else: a literal costs the prover by its length, wherever it is.
+fn block_of(value: u8) -> [u8; 512] {
+    [value; 512]
+}
+
+fn two_blocks_of(value: u8) -> [u8; 1024] {
+    [value; 1024]
+}
+
+// The first n bytes, all where there are fewer.
+fn front(bytes: &[u8], n: usize) -> &[u8] {
+    if n <= bytes.len() {
+        return &bytes[..n];
+    }
+    bytes
+}
+
 fn checks() {
+    let a = block_of(255);
     line(
         b"check of 508 bytes of 255, and of 507",
-        check(&[255u8; 508]) as u64,
-        check(&[255u8; 507]) as u64,
+        check(front(&a, 508)) as u64,
+        check(front(&a, 507)) as u64,
     );
+    let b = block_of(3);
     line(
-        b"check of 508 zeros, and of 512 bytes of 3",
-        check(&[0u8; 508]) as u64,
-        check(&[3u8; 512]) as u64,
+        b"check of 512 bytes of 3, and of none",
+        check(&b) as u64,
+        check(front(&b, 0)) as u64,
     );
 }
 
 fn lengths() {
+    let b = two_blocks_of(0);
     line(
         b"blocks in 512 and 1024 bytes",
-        block::blocks_in(&[0u8; 512]) as u64,
-        block::blocks_in(&[0u8; 1024]) as u64,
+        block::blocks_in(front(&b, 512)) as u64,
+        block::blocks_in(&b) as u64,
     );
     line(
         b"blocks in 513 and 0 bytes",
-        block::blocks_in(&[0u8; 513]) as u64,
-        block::blocks_in(&[]) as u64,
+        block::blocks_in(front(&b, 513)) as u64,
+        block::blocks_in(front(&b, 0)) as u64,
     );
 }
 
@@ -98,54 +118,69 @@ fn carried(what: &[u8], log: &[u8], image: &mut [u8], back: &mut [u8]) {
     );
 }
 
-fn logs() {
-    carried(b"empty log", &[], &mut [7u8; 512], &mut [8u8; 508]);
-    carried(b"1 byte", &[65u8], &mut [7u8; 512], &mut [8u8; 508]);
-    carried(
-        b"499 bytes",
-        &[255u8; 499],
-        &mut [7u8; 512],
-        &mut [8u8; 508],
-    );
-    carried(
-        b"500 bytes",
-        &[255u8; 500],
-        &mut [7u8; 512],
-        &mut [8u8; 508],
-    );
-    carried(
-        b"501 bytes",
-        &[255u8; 501],
-        &mut [7u8; 1024],
-        &mut [8u8; 508],
-    );
-    carried(
-        b"1000 bytes",
-        &[9u8; 1000],
-        &mut [7u8; 1024],
-        &mut [8u8; 1001],
+// A log of one block, and one of two, read to an output of so many bytes.
+fn one_block(what: &[u8], log: &[u8]) {
+    let mut image = block_of(7);
+    let mut back = block_of(8);
+    carried(what, log, &mut image, &mut back);
+}
+
+fn two_blocks(what: &[u8], log: &[u8]) {
+    let mut image = two_blocks_of(7);
+    let mut back = two_blocks_of(8);
+    carried(what, log, &mut image, &mut back);
+}
+
+fn logs(bytes: &[u8]) {
+    one_block(b"empty log", front(bytes, 0));
+    one_block(b"1 byte", front(bytes, 1));
+    one_block(b"499 bytes", front(bytes, 499));
+    one_block(b"500 bytes", front(bytes, 500));
+    two_blocks(b"501 bytes", front(bytes, 501));
+    two_blocks(b"1000 bytes", front(bytes, 1000));
+}
+
+// The same with an output of n bytes.
+fn written_to(what: &[u8], log: &[u8], out: &mut [u8], n: usize) {
+    if n <= out.len() {
+        written(what, log, &mut out[..n]);
+    }
+}
+
+fn carried_to(what: &[u8], log: &[u8], image: &mut [u8], back: &mut [u8], n: usize) {
+    if n <= back.len() {
+        carried(what, log, image, &mut back[..n]);
+    }
+}
+
+fn short_outputs(bytes: &[u8]) {
+    let mut image = block_of(7);
+    let mut back = block_of(8);
+    written_to(b"500 bytes to 511", front(bytes, 500), &mut image, 511);
+    carried_to(
+        b"500 bytes, read to 499",
+        front(bytes, 500),
+        &mut image,
+        &mut back,
+        499,
     );
 }
 
-fn short_outputs() {
-    written(b"500 bytes to 511", &[1u8; 500], &mut [7u8; 511]);
-    carried(
-        b"500 bytes, read to 499",
-        &[1u8; 500],
-        &mut [7u8; 512],
-        &mut [8u8; 499],
-    );
-    carried(
+fn short_output_of_two(bytes: &[u8]) {
+    let mut image = two_blocks_of(7);
+    let mut back = two_blocks_of(8);
+    carried_to(
         b"1000 bytes, read to 999",
-        &[1u8; 1000],
-        &mut [7u8; 1024],
-        &mut [8u8; 999],
+        front(bytes, 1000),
+        &mut image,
+        &mut back,
+        999,
     );
 }
 
 // A block with a right check: its number, used count and mark, and one byte of it set to a value.
 fn sealed(number: u8, used: &[u8], mark: u8, at: usize, value: u8) -> [u8; 512] {
-    let mut b = [0u8; 512];
+    let mut b = block_of(0);
     put(&mut b, 0, &[number]);
     put(&mut b, 4, used);
     put(&mut b, 506, &[mark]);
@@ -171,7 +206,7 @@ fn with_check(block: [u8; 512]) -> [u8; 512] {
 
 // An image of two blocks: the refusal of each.
 fn judged(what: &[u8], first: &[u8; 512], second: &[u8; 512]) {
-    let mut image = [0u8; 1024];
+    let mut image = two_blocks_of(0);
     put(&mut image, 0, first);
     put(&mut image, 512, second);
     line(
@@ -257,8 +292,10 @@ fn main() {
     marks();
     checks();
     lengths();
-    logs();
-    short_outputs();
+    let bytes = two_blocks_of(255);
+    logs(&bytes);
+    short_outputs(&bytes);
+    short_output_of_two(&bytes);
     let first = sealed(0, b"\xf4\x01", 0, 6, 1);
     let second = sealed(1, b"\x03\x00", 1, 6, 1);
     numbers(&first, &second);
