@@ -109,6 +109,18 @@ extern "C" {
 #define EVENTLOG_REFUSED_INPUT 16u
 /* The record has no such string, or no ended string starts at the place of the run. */
 #define EVENTLOG_REFUSED_NO_STRING 17u
+/* The log is longer than a memory card carries. */
+#define EVENTLOG_REFUSED_CARD_LOG 19u
+/* The image of a card is not whole blocks, or too few or too many; or it has no block at the place. */
+#define EVENTLOG_REFUSED_CARD_LENGTH 20u
+/* A block's check is not that of its bytes. */
+#define EVENTLOG_REFUSED_BLOCK_CHECK 21u
+/* A block's number is not its place. */
+#define EVENTLOG_REFUSED_BLOCK_NUMBER 22u
+/* A block's used count is wrong, or a payload byte after the used ones is not zero. */
+#define EVENTLOG_REFUSED_BLOCK_USED 23u
+/* A block's last mark is not 1 in the last block and 0 in every other. */
+#define EVENTLOG_REFUSED_BLOCK_MARK 24u
 
 /* What a read answers: an NTSTATUS, under its name in MS-ERREF. */
 #define EVENTLOG_STATUS_SUCCESS 0u
@@ -152,6 +164,12 @@ extern "C" {
 #define EVENTLOG_MAX_READ 524287u
 #define EVENTLOG_LISTING_ROOM 64u
 #define EVENTLOG_MAX_STACK 4096u
+
+/* A memory card: the bytes of a block and of its payload, the most blocks, and the longest log. */
+#define EVENTLOG_CARD_BLOCK 512u
+#define EVENTLOG_CARD_PAYLOAD 500u
+#define EVENTLOG_MAX_CARD_BLOCKS 33555u
+#define EVENTLOG_MAX_CARD_LOG 16777500u
 
 /* ---- what is given and answered ---- */
 
@@ -380,6 +398,42 @@ eventlog_answer eventlog_read(eventlog_handle handle, const uint8_t *log, size_t
  * Cost: the records are stepped over twice, once to measure the text. */
 eventlog_written eventlog_listing(const uint8_t *buffer, size_t buffer_len, uint8_t *out, size_t out_len);
 
+/* ---- a memory card to carry a log (section 13) ----
+ *
+ * An image is the blocks of a log, one after another. A block, places counted from its start:
+ *
+ *    place  bytes  field
+ *        0      4  the block's number, from 0
+ *        4      2  how many payload bytes are used: 500, in the last block 1 to 500, in an empty log's only block 0
+ *        6    500  the payload, zero after the used bytes
+ *      506      2  the last mark: 1 in the last block, else 0
+ *      508      2  the check's low half: the sum of bytes 0 to 507, modulo 65,521
+ *      510      2  its high half: the sum of byte i times (508 - i), modulo 65,521
+ *
+ * The log is any bytes: no record is judged. */
+
+/* How many blocks a log of so many bytes takes: 1 for an empty one, else the bytes over 500, rounded up; for a log
+ * that is too long for a card too. An image has EVENTLOG_CARD_BLOCK bytes for each. */
+size_t eventlog_card_blocks(size_t bytes);
+
+/* Writes the image of a log over the start of the output and answers how many bytes it has. Refused with 19 where
+ * the log has more bytes than EVENTLOG_MAX_CARD_LOG, and then with 15 where the output has no room for the image.
+ * A refusal answers length 0 and leaves the output as it was; a success leaves the output past the image.
+ * Cost: every byte of the image is written once, and summed up once. */
+eventlog_written eventlog_card_write(const uint8_t *log, size_t log_len, uint8_t *out, size_t out_len);
+
+/* Reads the log of an image over the start of the output and answers how many bytes it has. Refused with 20 where
+ * image_len is no multiple of 512, 0 or more than 33,555 blocks; then as the first block that eventlog_card_judge
+ * refuses, 21 to 24; then with 15 where the output has no room for the log. A refusal answers length 0 and leaves
+ * the output as it was; a success leaves the output past the log.
+ * Cost: every byte of the image is summed up once, and every byte of the log is copied once. */
+eventlog_written eventlog_card_read(const uint8_t *image, size_t image_len, uint8_t *out, size_t out_len);
+
+/* The refusal of the block at a place of an image, counted from 0, judged for this place; 0 where nothing is
+ * refused. 20 where image_len is wrong or the image has no such block; else the first of 21, 22, 23 and 24.
+ * Cost: the block is summed up once, however long the image is. */
+uint32_t eventlog_card_judge(const uint8_t *image, size_t image_len, size_t place);
+
 /* ---- written here, in C: not proved ---- */
 
 /* Some bytes, to be given. */
@@ -494,6 +548,12 @@ static inline const char *eventlog_message(uint32_t number)
     case EVENTLOG_REFUSED_OUTPUT: return "the output is too short";
     case EVENTLOG_REFUSED_INPUT: return "the listing program's input is too long";
     case EVENTLOG_REFUSED_NO_STRING: return "there is no such string";
+    case EVENTLOG_REFUSED_CARD_LOG: return "the log is longer than a card carries";
+    case EVENTLOG_REFUSED_CARD_LENGTH: return "the image's length is wrong, or it has no such block";
+    case EVENTLOG_REFUSED_BLOCK_CHECK: return "a block's check is wrong";
+    case EVENTLOG_REFUSED_BLOCK_NUMBER: return "a block's number is not its place";
+    case EVENTLOG_REFUSED_BLOCK_USED: return "a block's used count is wrong, or its rest is not zero";
+    case EVENTLOG_REFUSED_BLOCK_MARK: return "a block's last mark is wrong";
     case EVENTLOG_STATUS_INVALID_HANDLE: return "the handle's boundary is past the log's end";
     case EVENTLOG_STATUS_INVALID_PARAMETER: return "flags or size are wrong, or no record has the number sought";
     case EVENTLOG_STATUS_END_OF_FILE: return "no bytes are left in that direction";

@@ -26,6 +26,11 @@ static const uint32_t refusals[] = {
     EVENTLOG_REFUSED_DATA, EVENTLOG_REFUSED_SIZE, EVENTLOG_REFUSED_LOG_END, EVENTLOG_REFUSED_OUTPUT,
     EVENTLOG_REFUSED_INPUT, EVENTLOG_REFUSED_NO_STRING,
 };
+/* Those of a memory card, from 19 on. */
+static const uint32_t cards[] = {
+    EVENTLOG_REFUSED_CARD_LOG, EVENTLOG_REFUSED_CARD_LENGTH, EVENTLOG_REFUSED_BLOCK_CHECK,
+    EVENTLOG_REFUSED_BLOCK_NUMBER, EVENTLOG_REFUSED_BLOCK_USED, EVENTLOG_REFUSED_BLOCK_MARK,
+};
 static const uint32_t statuses[] = {
     EVENTLOG_STATUS_INVALID_HANDLE, EVENTLOG_STATUS_INVALID_PARAMETER, EVENTLOG_STATUS_END_OF_FILE,
     EVENTLOG_STATUS_BUFFER_TOO_SMALL, EVENTLOG_STATUS_EVENTLOG_FILE_CORRUPT,
@@ -36,6 +41,9 @@ static void numbers(void)
     CHECK(COUNT(refusals) == 18);
     for (size_t i = 0; i < COUNT(refusals); i++)
         CHECK(refusals[i] == i);
+    CHECK(COUNT(cards) == 6);
+    for (size_t i = 0; i < COUNT(cards); i++)
+        CHECK(cards[i] == 19 + i);
     CHECK(EVENTLOG_STATUS_SUCCESS == 0);
     CHECK(statuses[0] == 0xC0000008 && statuses[1] == 0xC000000D && statuses[2] == 0xC0000011);
     CHECK(statuses[3] == 0xC0000023 && statuses[4] == 0xC000018E);
@@ -48,9 +56,14 @@ static void numbers(void)
 static void messages(void)
 {
     const char *unknown = eventlog_message(18);
-    const char *all[COUNT(refusals) + COUNT(statuses)];
-    for (size_t i = 0; i < COUNT(all); i++)
-        all[i] = eventlog_message(i < COUNT(refusals) ? refusals[i] : statuses[i - COUNT(refusals)]);
+    const char *all[COUNT(refusals) + COUNT(statuses) + COUNT(cards)];
+    size_t count = 0;
+    for (size_t i = 0; i < COUNT(refusals); i++)
+        all[count++] = eventlog_message(refusals[i]);
+    for (size_t i = 0; i < COUNT(statuses); i++)
+        all[count++] = eventlog_message(statuses[i]);
+    for (size_t i = 0; i < COUNT(cards); i++)
+        all[count++] = eventlog_message(cards[i]);
     for (size_t i = 0; i < COUNT(all); i++) {
         CHECK(strlen(all[i]) > 0 && strcmp(all[i], unknown) != 0);
         for (size_t k = 0; k < i; k++)

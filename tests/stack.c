@@ -66,6 +66,10 @@ static void walk_back(void) { kept = eventlog_walk_back(batch, used).count; }
 static void write_event(void) { kept = eventlog_write_event(UINT32_MAX, &event, out, sizeof out).length; }
 static void append(void) { kept = eventlog_append_event(batch, sizeof batch, used, &event).used; }
 static void listing(void) { kept = eventlog_listing(batch, used, out, sizeof out).length; }
+static void card_blocks(void) { kept = eventlog_card_blocks(used); }
+static void card_write(void) { kept = eventlog_card_write(name, sizeof name, out, sizeof out).length; }
+static void card_read(void) { kept = eventlog_card_read(out, 400 * EVENTLOG_CARD_BLOCK, batch + used, sizeof batch - used).length; }
+static void card_judge(void) { kept = eventlog_card_judge(out, 400 * EVENTLOG_CARD_BLOCK, 399); }
 
 static void read_with(uint32_t flags)
 {
@@ -85,7 +89,8 @@ int main(void)
         {"fresh", fresh}, {"step", step}, {"step_back", step_back}, {"refusal", refusal}, {"string", string},
         {"string_refusal", string_refusal}, {"next_string", next_string}, {"walk", walk}, {"walk_back", walk_back},
         {"write", write_event}, {"append", append}, {"read forwards", forwards}, {"read backwards", backwards},
-        {"read seek", seek}, {"listing", listing},
+        {"read seek", seek}, {"listing", listing}, {"card_blocks", card_blocks}, {"card_write", card_write},
+        {"card_read", card_read}, {"card_judge", card_judge},
     };
     memset(name, 1, sizeof name);
     /* Records numbered from 4,294,967,294 on, so that a listing has long numbers; a seek finds the third, 0. */
@@ -96,7 +101,8 @@ int main(void)
     for (size_t i = 0; i < sizeof calls / sizeof *calls; i++) {
         kept = 0;
         size_t taken = used_by(calls[i].call) - base;
-        if (kept == 0 && calls[i].call != fresh && calls[i].call != refusal && calls[i].call != string_refusal) {
+        if (kept == 0 && calls[i].call != fresh && calls[i].call != refusal && calls[i].call != string_refusal
+            && calls[i].call != card_judge) {
             printf("stack.c: %s answers nothing\n", calls[i].name);
             return 1;
         }

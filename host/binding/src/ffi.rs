@@ -184,6 +184,16 @@ unsafe extern "C" {
         out: *mut u8,
         out_len: usize,
     ) -> Written;
+    fn eventlog_card_blocks(bytes: usize) -> usize;
+    fn eventlog_card_write(log: *const u8, log_len: usize, out: *mut u8, out_len: usize)
+    -> Written;
+    fn eventlog_card_read(
+        image: *const u8,
+        image_len: usize,
+        out: *mut u8,
+        out_len: usize,
+    ) -> Written;
+    fn eventlog_card_judge(image: *const u8, image_len: usize, place: usize) -> u32;
 }
 
 pub(crate) fn step(buffer: &[u8], at: usize) -> Stepped {
@@ -324,6 +334,26 @@ pub(crate) fn listing(buffer: &[u8], out: &mut [u8]) -> Written {
     // SAFETY: `buffer` is readable and `out` writable for its length; a `&mut`
     // does not overlap.
     unsafe { eventlog_listing(buffer.as_ptr(), buffer.len(), out.as_mut_ptr(), out.len()) }
+}
+
+pub(crate) fn card_blocks(bytes: usize) -> usize {
+    // SAFETY: any number may be given.
+    unsafe { eventlog_card_blocks(bytes) }
+}
+
+pub(crate) fn card_write(log: &[u8], out: &mut [u8]) -> Written {
+    // SAFETY: as in `listing`.
+    unsafe { eventlog_card_write(log.as_ptr(), log.len(), out.as_mut_ptr(), out.len()) }
+}
+
+pub(crate) fn card_read(image: &[u8], out: &mut [u8]) -> Written {
+    // SAFETY: as in `listing`.
+    unsafe { eventlog_card_read(image.as_ptr(), image.len(), out.as_mut_ptr(), out.len()) }
+}
+
+pub(crate) fn card_judge(image: &[u8], place: usize) -> u32 {
+    // SAFETY: as in `step`.
+    unsafe { eventlog_card_judge(image.as_ptr(), image.len(), place) }
 }
 
 #[cfg(test)]

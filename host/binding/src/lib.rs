@@ -38,6 +38,7 @@
 #[cfg(test)]
 extern crate std;
 
+pub mod card;
 mod constants;
 #[allow(unsafe_code)]
 mod ffi;

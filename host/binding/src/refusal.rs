@@ -50,6 +50,19 @@ pub enum Refusal {
     /// There is no such string: the record has not so many, or none starts at
     /// the place of a run.
     NoString = 17,
+    /// The log is longer than a [card](crate::card) carries.
+    CardLog = 19,
+    /// A card's image is not whole blocks, or too few or too many, or it has no
+    /// block at the place.
+    CardLength = 20,
+    /// A block's check is wrong.
+    BlockCheck = 21,
+    /// A block's number is not its place.
+    BlockNumber = 22,
+    /// A block's used count is wrong, or its rest is not zero.
+    BlockUsed = 23,
+    /// A block's last mark is wrong.
+    BlockMark = 24,
 }
 
 impl Refusal {
@@ -83,6 +96,12 @@ impl Refusal {
             14 => Refusal::LogEnd,
             15 => Refusal::Output,
             17 => Refusal::NoString,
+            19 => Refusal::CardLog,
+            20 => Refusal::CardLength,
+            21 => Refusal::BlockCheck,
+            22 => Refusal::BlockNumber,
+            23 => Refusal::BlockUsed,
+            24 => Refusal::BlockMark,
             _ => panic!("refusal {number}, which the library is proved never to answer"),
         })
     }
@@ -112,6 +131,12 @@ impl fmt::Display for Refusal {
             Refusal::LogEnd => "the log does not end with a good record",
             Refusal::Output => "the output is too short",
             Refusal::NoString => "there is no such string",
+            Refusal::CardLog => "the log is longer than a card carries",
+            Refusal::CardLength => "the image's length is wrong, or it has no such block",
+            Refusal::BlockCheck => "a block's check is wrong",
+            Refusal::BlockNumber => "a block's number is not its place",
+            Refusal::BlockUsed => "a block's used count is wrong, or its rest is not zero",
+            Refusal::BlockMark => "a block's last mark is wrong",
         })
     }
 }
@@ -169,7 +194,7 @@ mod tests {
     #[test]
     fn numbers() {
         assert_eq!(Refusal::from_number(0), None);
-        for number in (1..=15).chain([17]) {
+        for number in (1..=15).chain([17]).chain(19..=24) {
             let refusal = Refusal::from_number(number);
             assert_eq!(refusal.map(Refusal::number), Some(number));
         }

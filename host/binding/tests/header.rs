@@ -34,6 +34,10 @@ fn numbers() {
         ("MAX_DATA", limit(MAX_DATA)),
         ("MAX_READ", limit(MAX_READ)),
         ("LISTING_ROOM", limit(LISTING_ROOM)),
+        ("CARD_BLOCK", limit(card::BLOCK)),
+        ("CARD_PAYLOAD", limit(card::PAYLOAD)),
+        ("MAX_CARD_BLOCKS", limit(card::MAX_BLOCKS)),
+        ("MAX_CARD_LOG", limit(card::MAX_LOG)),
         ("SIGNATURE", SIGNATURE),
         ("FLAGS_XML", u32::from(XML_FLAG)),
         ("SEQUENTIAL", flags::SEQUENTIAL),
@@ -77,6 +81,12 @@ fn words() {
         ("LOG_END", Refusal::LogEnd),
         ("OUTPUT", Refusal::Output),
         ("NO_STRING", Refusal::NoString),
+        ("CARD_LOG", Refusal::CardLog),
+        ("CARD_LENGTH", Refusal::CardLength),
+        ("BLOCK_CHECK", Refusal::BlockCheck),
+        ("BLOCK_NUMBER", Refusal::BlockNumber),
+        ("BLOCK_USED", Refusal::BlockUsed),
+        ("BLOCK_MARK", Refusal::BlockMark),
     ] {
         let name = format!("REFUSED_{name}");
         assert_eq!(defined(&header, &name), refusal.number(), "{name}");

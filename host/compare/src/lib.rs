@@ -3,6 +3,7 @@
 //! Work is cut into rounds of a family of inputs; each has its own seed, so a
 //! difference names the round that shows it again.
 
+pub mod card;
 pub mod check;
 pub mod make;
 pub mod random;

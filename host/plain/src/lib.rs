@@ -1,7 +1,7 @@
 //! Windows event records (EVENTLOGRECORD of MS-EVEN 2.2.3), Unicode only.
 //!
 //! The calls of Rule 1.4 of `docs/SPECIFICATION.md`: steps and walks in both
-//! directions, writing, appending, reads of a log, and the listing. Every part
+//! directions, writing, appending, reads of a log, the listing, and the card. Every part
 //! handed back borrows the caller's bytes; only [`listing`] allocates.
 //!
 //! The crate `simple` is this library with the feature `simple-search`: all the
@@ -10,6 +10,7 @@
 #![forbid(unsafe_code)]
 #![warn(missing_docs)]
 
+pub mod card;
 mod judge;
 mod layout;
 mod listing;

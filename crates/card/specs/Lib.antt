@@ -1,0 +1,9 @@
+pub mod Check
+pub mod Block
+pub mod Image
+pub mod Judging
+pub mod Calls
+pub mod Damage
+pub mod Laws
+pub mod Theorems
+pub mod Samples
