@@ -278,6 +278,7 @@ fn fields(first: &[u8; 512], second: &[u8; 512]) {
 fn changed(at: usize, value: u8) {
     let mut b = sealed(0, b"\x03\x00", 1, 6, 1);
     put(&mut b, at, &[value]);
+    refused(&b);
     let mut c = sealed(5, b"\x03\x00", 1, 6, 1);
     put(&mut c, at, &[value]);
     line(
