@@ -8,6 +8,10 @@ use crate::show::topic;
 use content::text::Found;
 use content::text::strings_end;
 use content::text::text_len;
+use searches::searches_strings_end;
+use searches::searches_strings_end_by_unit;
+use searches::searches_text_len;
+use searches::searches_text_len_by_unit;
 use stores::put;
 
 fn yes(b: bool) -> u64 {
@@ -168,6 +172,24 @@ fn texts() {
             text_len(b"\0A\0B\0C\0\0") as u64,
         ],
     );
+    line(
+        b"texts with a zero unit last and first of four units, and after four",
+        &[
+            text_len(b"A\0B\0C\0\0\0") as u64,
+            text_len(b"\0\0A\0B\0C\0") as u64,
+            text_len(b"A\0B\0C\0D\0\0\0E\0F\0G\0") as u64,
+        ],
+    );
+    line(
+        b"texts of 128 units with a zero unit at bytes 80 and 200",
+        &[long_text(80), long_text(200)],
+    );
+}
+
+fn long_text(at: usize) -> u64 {
+    let mut s = [1u8; 256];
+    put(&mut s, at, b"\0\0");
+    text_len(&s) as u64
 }
 
 // Where so many strings end; 99 where there are not so many.
@@ -196,6 +218,36 @@ fn strings() {
             end_of(b"A\0\0", 1),
             end_of(b"AA\0\0A\0\0", 2),
             end_of(b"", 1),
+        ],
+    );
+    line(
+        b"a string of eight units, and two short ones",
+        &[
+            end_of(b"A\0B\0C\0D\0E\0F\0G\0H\0\0\0I\0J\0K\0L\0\0\0", 1),
+            end_of(b"A\0\0\0B\0\0\0", 2),
+        ],
+    );
+}
+
+// The calls of the benchmark.
+fn searched() {
+    let s = b"A\0\0\0B\0\0\0";
+    line(
+        b"the search as a call: a text, two strings, three",
+        &[
+            searches_text_len(s) as u64,
+            searches_strings_end(s, 2) as u64,
+            searches_strings_end(s, 3) as u64,
+        ],
+    );
+    line(
+        b"unit by unit: a text, a zero unit, one unit, two strings, an empty one",
+        &[
+            searches_text_len_by_unit(s) as u64,
+            searches_text_len_by_unit(b"\0\0") as u64,
+            searches_text_len_by_unit(b"A\0") as u64,
+            searches_strings_end_by_unit(s, 2) as u64,
+            searches_strings_end_by_unit(b"\0\0", 1) as u64,
         ],
     );
 }
@@ -240,6 +292,7 @@ pub fn values() {
     paddings();
     texts();
     strings();
+    searched();
     topic(b"bytes put into a buffer");
     puts();
 }
