@@ -6,16 +6,17 @@ mod calls;
 mod table;
 
 use std::hint::black_box;
+use std::ops::RangeInclusive;
 
 use calls::{by_unit, proved, tuned, untuned};
 use compare::make::{text, Made, MAX_DATA};
 use compare::random::Random;
-use table::Table;
+use table::{Table, Work};
 
 /// All is measured so many times, one table after the other.
 const RUNS: usize = 5;
-const ROUNDS: usize = 20;
-/// A search is short, so that there is time for more of them.
+const ROUNDS: usize = 40;
+/// What takes little time is done in more rounds.
 const SEARCH_ROUNDS: usize = 200;
 
 const BATCH: usize = 16 << 20;
@@ -24,7 +25,7 @@ const READ: usize = 64 << 10;
 /// Names alone are short work: many walks of one record.
 const NAME_WALKS: usize = 1000;
 const STRINGS: usize = 256;
-/// So many units of texts are searched in a round, one text after the other.
+/// At least so many units are searched in a round.
 const SEARCHED: usize = 60_000;
 /// Bytes behind a text that is searched, as a record has them.
 const BEHIND: usize = 200;
@@ -157,25 +158,28 @@ struct Runs {
     name: String,
     strings: u32,
     runs: Vec<Vec<u8>>,
+    /// How often all of them are searched in a round.
+    times: usize,
 }
 
 impl Runs {
-    /// Strings of these lengths.
+    /// So many runs of strings of these lengths.
     fn new(
         rng: &mut Random,
         name: &str,
-        strings: u32,
-        units: std::ops::RangeInclusive<usize>,
+        (count, strings): (usize, u32),
+        units: RangeInclusive<usize>,
     ) -> Runs {
         let (low, high) = units.into_inner();
-        let mean = (low + high) / 2 * strings as usize;
+        let mut all = 0;
         let mut runs = Vec::new();
-        for i in 0..SEARCHED.div_ceil(mean).clamp(2, 1000) {
+        for i in 0..count {
             let mut run = vec![0xEE; i % 2];
             for _ in 0..strings {
                 let units = rng.range(low, high);
                 run.extend(text(rng, units));
                 run.extend([0, 0]);
+                all += units + 1;
             }
             run.extend([0xEE; BEHIND]);
             runs.push(run);
@@ -184,20 +188,26 @@ impl Runs {
             name: name.into(),
             strings,
             runs,
+            times: SEARCHED.div_ceil(all),
         }
     }
 
     /// The sum of what the searches answer.
     fn sum(&self, search: impl Fn(&[u8]) -> usize) -> usize {
-        let runs = self.runs.iter().enumerate();
-        runs.map(|(i, run)| search(black_box(&run[i % 2..]))).sum()
+        let mut sum = 0;
+        for _ in 0..self.times {
+            for (i, run) in self.runs.iter().enumerate() {
+                sum += search(black_box(&run[i % 2..]));
+            }
+        }
+        sum
     }
 
-    fn row(&self, table: &mut Table<4>, works: [fn(&[u8], u32) -> usize; 4]) {
-        let parts = self.runs.len() as f64;
-        let [a, b, c, d] = works.map(|search| move || self.sum(|t| search(t, self.strings)));
-        let (mut a, mut b, mut c, mut d) = (a, b, c, d);
-        let works = &mut [&mut a as _, &mut b as _, &mut c as _, &mut d as _];
+    fn row(&self, table: &mut Table<4>, searches: [fn(&[u8], u32) -> usize; 4]) {
+        let parts = (self.runs.len() * self.times) as f64;
+        let [mut a, mut b, mut c, mut d] =
+            searches.map(|search| move || self.sum(|t| search(t, self.strings)));
+        let works: &mut [Work<'_>; 4] = &mut [&mut a, &mut b, &mut c, &mut d];
         table.row(&self.name, SEARCH_ROUNDS, parts, works);
     }
 }
@@ -247,26 +257,21 @@ fn main() {
     let many_strings = many_strings.encode(None);
 
     let lengths = [(8, "8"), (30, "30"), (300, "300"), (30_000, "30,000")];
-    let mut of_length = |what: &str| -> Vec<Runs> {
-        let runs =
-            lengths.map(|(n, units)| Runs::new(rng, &format!("{what} of {units} units"), 1, n..=n));
+    let mut of_each = |what: &str| -> Vec<Runs> {
+        let runs = lengths.map(|(n, units)| {
+            let name = format!("{what} of {units} units");
+            Runs::new(rng, &name, (16, 1), n..=n)
+        });
         runs.into()
     };
-    let (mut names, mut strings) = (of_length("a name"), of_length("a string"));
-    names.push(Runs::new(
-        rng,
-        "a name of 5 to 12 units, at random",
-        1,
-        5..=12,
-    ));
-    strings.push(Runs::new(
-        rng,
-        "6 strings of 0 to 20 units, at random",
-        6,
-        0..=20,
-    ));
+    let (mut names, mut strings) = (of_each("a name"), of_each("a string"));
+    // Many of them, so that the processor does not learn their lengths.
+    let mixed = "a name of 5 to 12 units, at random";
+    names.push(Runs::new(rng, mixed, (20_000, 1), 5..=12));
+    let mixed = "6 strings of 0 to 20 units, at random";
+    strings.push(Runs::new(rng, mixed, (20_000, 6), 0..=20));
 
-    let mut searches = Table::new(["proved", "by unit", "plain", "simple"]);
+    let mut searches = Table::new(["proved", "before", "plain", "simple"]);
     let mut calls = Table::new(["proved", "plain", "simple"]);
     for run in 1..=RUNS {
         eprintln!("run {run} of {RUNS}");

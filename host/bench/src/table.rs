@@ -47,10 +47,11 @@ impl<const N: usize> Table<N> {
     }
 
     /// Prints the lowest and the highest of all runs: the times in this unit of
-    /// seconds, and the first column's by each other's.
+    /// seconds, and the first column's as parts of the others'.
     pub fn print(&self, unit: f64) {
         let others = &self.head[1..];
-        let ratios: Vec<_> = others.iter().map(|o| format!("by {o}")).collect();
+        let first = self.head[0];
+        let ratios: Vec<_> = others.iter().map(|o| format!("{first} / {o}")).collect();
         println!("| | {} | {} |", self.head.join(" | "), ratios.join(" | "));
         println!("|---{}|", "|---".repeat(2 * N - 1));
         for (name, runs) in &self.rows {

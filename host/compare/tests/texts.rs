@@ -78,7 +78,7 @@ fn texts_of_every_length() {
 fn zero_bytes_at_every_place() {
     let (mut rng, mut check) = check("zero bytes at every place");
     for which in 0..TEXTS {
-        for (behind, start) in [(0, 0), (300, 1)] {
+        for (behind, start) in [(0, 0), (15, 1), (120, 0), (300, 1)] {
             let (made, long) = event(&mut rng, which, UNITS, behind);
             let (buffer, end) = placed(&made, start);
             // At even places a zero unit, at odd ones the halves of two units.
@@ -87,7 +87,7 @@ fn zero_bytes_at_every_place() {
                 changed[start + place..][..2].fill(0);
                 check.at(&changed, start);
                 check.step_back(&changed, end);
-                // Both together: the unit before and the one behind is zero too.
+                // The unit before it and the one behind it are zero too.
                 changed[start + place - 2..][..6].fill(0);
                 check.at(&changed, start);
             }
@@ -118,7 +118,7 @@ fn events_with_a_zero_unit_at_every_place() {
 fn strings_of_a_run_at_every_place() {
     let (mut rng, mut check) = check("strings of a run");
     for start in STARTS {
-        for len in (0..=2 * UNITS).step_by(3) {
+        for len in 0..=2 * UNITS {
             let mut s = text(&mut rng, UNITS + 4);
             for place in 0..len {
                 let kept = [s[start + place], s[start + place + 1]];
