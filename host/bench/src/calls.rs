@@ -48,6 +48,16 @@ pub mod proved {
             .sum()
     }
 
+    /// A log to a card's image; answers the image's length.
+    pub fn card_write(log: &[u8], image: &mut [u8]) -> usize {
+        eventlog::card::write(log, image).unwrap_or(0)
+    }
+
+    /// The log of a card's image; answers its length.
+    pub fn card_read(image: &[u8], log: &mut [u8]) -> usize {
+        eventlog::card::read(image, log).unwrap_or(0)
+    }
+
     unsafe extern "C" {
         fn searches_text_len(t: *const u8, len: usize) -> usize;
         fn searches_strings_end(t: *const u8, len: usize, count: u32) -> usize;
@@ -128,6 +138,14 @@ macro_rules! ordinary {
                 (0..count)
                     .map(|k| $library::string(record, 0, k).len())
                     .sum()
+            }
+
+            pub fn card_write(log: &[u8], image: &mut [u8]) -> usize {
+                $library::card::write(log, image).unwrap_or(0)
+            }
+
+            pub fn card_read(image: &[u8], log: &mut [u8]) -> usize {
+                $library::card::read(image, log).unwrap_or(0)
             }
 
             /// As a call, as the proved ones are.

@@ -153,6 +153,38 @@ fn string_rows(table: &mut Table<3>, record: &[u8]) {
     );
 }
 
+/// A log of 16 MiB to a card's image and back.
+fn card_rows(table: &mut Table<3>, log: &[u8]) {
+    let size = plain::card::blocks(log.len()) * plain::card::BLOCK;
+    let mut images = [(); 3].map(|()| vec![0; size]);
+    let [a, b, c] = &mut images;
+    table.row(
+        "a log of 16 MiB to a card's image",
+        ROUNDS,
+        1.0,
+        &mut [
+            &mut || proved::card_write(black_box(log), a),
+            &mut || tuned::card_write(black_box(log), b),
+            &mut || untuned::card_write(black_box(log), c),
+        ],
+    );
+    assert!(images[0] == images[1], "the images differ");
+    let image = &images[0][..];
+    let mut logs = [(); 3].map(|()| vec![0; log.len()]);
+    let [a, b, c] = &mut logs;
+    table.row(
+        "a card's image to a log of 16 MiB",
+        ROUNDS,
+        1.0,
+        &mut [
+            &mut || proved::card_read(black_box(image), a),
+            &mut || tuned::card_read(black_box(image), b),
+            &mut || untuned::card_read(black_box(image), c),
+        ],
+    );
+    assert!(logs.iter().all(|read| read == log), "the logs differ");
+}
+
 /// Runs of strings to be searched, at even and at odd addresses.
 struct Runs {
     name: String,
@@ -281,6 +313,7 @@ fn main() {
         }
         name_row(&mut calls, &long_name);
         string_rows(&mut calls, &many_strings);
+        card_rows(&mut calls, &batches[0].1);
     }
     println!(
         "One search, in ns. Ranges over {RUNS} runs of the minima of {SEARCH_ROUNDS} rounds.\n"
