@@ -5,6 +5,7 @@
 //! end on a multiple of 4 and that have data (without it evtexport takes padding
 //! for a string, or stops at a SID), and for ndrdump those with padding before
 //! Length2. Of these, every line that they print is compared, but for [`LEFT_OUT`].
+//! The same records with gaps before the first part are only counted.
 
 use std::env;
 use std::fs;
@@ -15,6 +16,9 @@ use compare::make::Made;
 use compare::random::Random;
 
 const RECORDS: u32 = 500;
+/// Bytes between the names and the first part (Rule 2.12); the names end on a
+/// multiple of 4, so that the writer leaves none.
+const GAPS: [usize; 5] = [0, 1, 2, 4, 8];
 const EVENT_TYPES: [u16; 6] = [0, 1, 2, 4, 8, 16];
 
 /// Lines of ndrdump's that are not compared: what surrounds the record, what the
@@ -48,12 +52,22 @@ fn sid(rng: &mut Random) -> Vec<u8> {
     sid
 }
 
+/// A time up to 2038, but none on the last day of 1999, which evtexport shows as
+/// its number.
+fn time(rng: &mut Random) -> u32 {
+    let time = rng.range(1, i32::MAX as usize) as u32;
+    match time {
+        946_598_400..946_684_800 => time - 86_400,
+        _ => time,
+    }
+}
+
 fn event(rng: &mut Random, record_number: u32) -> Made {
     let mut made = Made::default();
     let f = &mut made.fields;
     f.record_number = record_number;
-    f.time_generated = rng.range(1, i32::MAX as usize) as u32;
-    f.time_written = rng.range(1, i32::MAX as usize) as u32;
+    f.time_generated = time(rng);
+    f.time_written = time(rng);
     f.event_id = rng.bits() as u32;
     f.event_type = rng.pick(&EVENT_TYPES);
     f.event_category = rng.bits() as u16;
@@ -247,6 +261,28 @@ fn evt_file(records: &[Vec<u8>]) -> Vec<u8> {
     [bytes(&header), records.concat(), bytes(&ending)].concat()
 }
 
+/// A record as ndrdump shows it, but for the lines left out.
+fn ndrdump(folder: &Path, record: &[u8]) -> Shown {
+    let file = folder.join("record");
+    fs::write(&file, record).expect("the record is stored");
+    let path = file.to_str().expect("a path of letters");
+    let output = run("ndrdump", &["eventlog", "EVENTLOGRECORD", "struct", path]);
+    let mut theirs = shown(&output, " : ");
+    theirs.retain(|(name, _)| !LEFT_OUT.contains(&name.as_str()));
+    theirs
+}
+
+/// Records as evtexport shows them; it may stop before the last.
+fn evtexport(folder: &Path, records: &[Vec<u8>]) -> Vec<Shown> {
+    let file = folder.join("log.evt");
+    fs::write(&file, evt_file(records)).expect("the log is stored");
+    let output = run("evtexport", &[file.to_str().expect("a path of letters")]);
+    let mut events = output.trim_end().split("\n\n");
+    let program = events.next().unwrap_or_default();
+    assert!(program.starts_with("evtexport "), "{program}");
+    events.map(|event| shown(event, "\t: ")).collect()
+}
+
 /// Prints a difference and answers whether there was one.
 fn differ(program: &str, record: &[u8], ours: &Shown, theirs: &Shown) -> bool {
     if ours == theirs {
@@ -259,17 +295,12 @@ fn differ(program: &str, record: &[u8], ours: &Shown, theirs: &Shown) -> bool {
 
 /// The records that ndrdump reads rightly: how many, and how many differ.
 fn by_ndrdump(folder: &Path, made: &[Made], records: &[Vec<u8>]) -> (usize, usize) {
-    let file = folder.join("record");
-    let path = file.to_str().expect("a path of letters");
     let (mut read, mut differences) = (0, 0);
     for (made, record) in made.iter().zip(records) {
         if (made.strings.len() + made.data.len()).is_multiple_of(4) {
             continue;
         }
-        fs::write(&file, record).expect("the record is stored");
-        let output = run("ndrdump", &["eventlog", "EVENTLOGRECORD", "struct", path]);
-        let mut theirs = shown(&output, " : ");
-        theirs.retain(|(name, _)| !LEFT_OUT.contains(&name.as_str()));
+        let theirs = ndrdump(folder, record);
         read += 1;
         differences += usize::from(differ("ndrdump", record, &as_ndrdump(record), &theirs));
     }
@@ -278,19 +309,24 @@ fn by_ndrdump(folder: &Path, made: &[Made], records: &[Vec<u8>]) -> (usize, usiz
 
 /// How many of the records evtexport shows differently.
 fn by_evtexport(folder: &Path, records: &[Vec<u8>]) -> usize {
-    let file = folder.join("log.evt");
-    fs::write(&file, evt_file(records)).expect("the log is stored");
-    let output = run("evtexport", &[file.to_str().expect("a path of letters")]);
-    let mut events = output.trim_end().split("\n\n");
-    let program = events.next().unwrap_or_default();
-    assert!(program.starts_with("evtexport "), "{program}");
-    let events: Vec<&str> = events.collect();
+    let events = evtexport(folder, records);
     assert_eq!(events.len(), records.len(), "evtexport shows each record");
-    let differs = |(record, event): &(&Vec<u8>, &str)| {
-        let theirs = shown(event, "\t: ");
-        differ("evtexport", record, &as_evtexport(record), &theirs)
+    let differs = |(record, theirs): &(&Vec<u8>, &Shown)| {
+        differ("evtexport", record, &as_evtexport(record), theirs)
     };
-    records.iter().zip(events).filter(differs).count()
+    records.iter().zip(&events).filter(differs).count()
+}
+
+/// Records with a gap before the first part: how many ndrdump shows as the proved
+/// reader does, and how many evtexport.
+fn with_gap(folder: &Path, records: &[Vec<u8>]) -> (usize, usize) {
+    let (mut ndr, mut evt) = (0, 0);
+    for record in records {
+        ndr += usize::from(ndrdump(folder, record) == as_ndrdump(record));
+        let one = std::slice::from_ref(record);
+        evt += usize::from(evtexport(folder, one) == [as_evtexport(record)]);
+    }
+    (ndr, evt)
 }
 
 fn main() -> ExitCode {
@@ -304,6 +340,11 @@ fn main() -> ExitCode {
     let (read, differences) = by_ndrdump(folder, &made, &records);
     let differences = differences + by_evtexport(folder, &records);
     println!("{read} records by ndrdump, {RECORDS} by evtexport, {differences} differences");
+    for gap in GAPS {
+        let records: Vec<Vec<u8>> = made.iter().map(|made| made.gapped(gap, None)).collect();
+        let (ndr, evt) = with_gap(folder, &records);
+        println!("a gap of {gap}: ndrdump shows {ndr} of {RECORDS} as we do, evtexport {evt}");
+    }
     match differences {
         0 => ExitCode::SUCCESS,
         _ => ExitCode::FAILURE,
