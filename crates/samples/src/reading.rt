@@ -327,9 +327,14 @@ fn strings_by_number() {
     show_string(b"string 3 of U", &log, 168, 3);
     show_string(b"string 4294967295 of U", &log, 168, 0xffff_ffff);
     show_string(b"string 0 at 1", &log, 1, 0);
-    let mut other = log;
-    put(&mut other, 88, b"\x03");
-    show_string(b"string 0 of T with type 3", &other, 64, 0);
+    string_of_wrong_type();
+}
+
+// Apart from the others: a log that is lent so often is no longer known to have its length.
+fn string_of_wrong_type() {
+    let mut log = log();
+    put(&mut log, 88, b"\x03");
+    show_string(b"string 0 of T with type 3", &log, 64, 0);
 }
 
 // The string that starts at a place of a run of the log: its refusal, where it lies, and the place after it.
