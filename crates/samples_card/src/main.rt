@@ -1,7 +1,11 @@
-// The memory card (section 13) asked for small logs and images. The largest log and image are asked from C and
-// Rust (tests/card.c and host/compare): they are larger than a program's stack.
+// The memory card (section 13) asked for small logs and images, by the calls for C where there are any. The largest
+// log and image are asked from C and Rust (tests/card.c and host/compare): they are larger than a program's stack.
 
 use checksum::check;
+use eventlog::memory_card::eventlog_card_blocks;
+use eventlog::memory_card::eventlog_card_judge;
+use eventlog::memory_card::eventlog_card_read;
+use eventlog::memory_card::eventlog_card_write;
 use libc::STDOUT_FILENO;
 use stores::put;
 
@@ -19,8 +23,8 @@ fn line(what: &[u8], a: u64, b: u64) {
 fn counted(what: &[u8], a: usize, b: usize) {
     line(
         what,
-        card_write::block_count(a) as u64,
-        card_write::block_count(b) as u64,
+        eventlog_card_blocks(a) as u64,
+        eventlog_card_blocks(b) as u64,
     );
 }
 
@@ -97,7 +101,7 @@ fn lengths() {
 
 // The image of a log, in an output of some length: the answer, and the check and the refusal of the output.
 fn written(what: &[u8], log: &[u8], out: &mut [u8]) {
-    let w = card_write::write(log, out);
+    let w = eventlog_card_write(log, out);
     line(what, w.refusal as u64, w.length as u64);
     line(
         b"  its first check and refusal",
@@ -109,12 +113,12 @@ fn written(what: &[u8], log: &[u8], out: &mut [u8]) {
 // The same, and the log that it is read as: the answer, the check of the output, and the second block's refusal.
 fn carried(what: &[u8], log: &[u8], image: &mut [u8], back: &mut [u8]) {
     written(what, log, image);
-    let r = card_read::read(image, back);
+    let r = eventlog_card_read(image, back);
     line(b"  read back", r.refusal as u64, r.length as u64);
     line(
         b"  its check, and the second block",
         check(back) as u64,
-        block::judge(image, 1) as u64,
+        eventlog_card_judge(image, 1) as u64,
     );
 }
 
@@ -211,8 +215,8 @@ fn judged(what: &[u8], first: &[u8; 512], second: &[u8; 512]) {
     put(&mut image, 512, second);
     line(
         what,
-        block::judge(&image, 0) as u64,
-        block::judge(&image, 1) as u64,
+        eventlog_card_judge(&image, 0) as u64,
+        eventlog_card_judge(&image, 1) as u64,
     );
     refused(&image);
 }
@@ -221,7 +225,7 @@ fn refused(image: &[u8]) {
     line(
         b"  the image, and a third block",
         card_read::refusal(image) as u64,
-        block::judge(image, 2) as u64,
+        eventlog_card_judge(image, 2) as u64,
     );
 }
 
@@ -283,8 +287,8 @@ fn changed(at: usize, value: u8) {
     put(&mut c, at, &[value]);
     line(
         b"a changed byte, and in a wrong number",
-        block::judge(&b, 0) as u64,
-        block::judge(&c, 0) as u64,
+        eventlog_card_judge(&b, 0) as u64,
+        eventlog_card_judge(&c, 0) as u64,
     );
 }
 
