@@ -53,7 +53,7 @@ fn marks() {
     );
 }
 
-// Arrays of one byte. They are made here and nowhere else: a literal costs the prover by its length, wherever it is.
+// Arrays that hold one byte throughout.
 fn block_of(value: u8) -> [u8; 512] {
     [value; 512]
 }
