@@ -109,6 +109,8 @@ extern "C" {
 #define EVENTLOG_REFUSED_INPUT 16u
 /* The record has no such string, or no ended string starts at the place of the run. */
 #define EVENTLOG_REFUSED_NO_STRING 17u
+/* A unit of UTF-16 is none of windows-1252, or half a unit is left. */
+#define EVENTLOG_REFUSED_UNIT 18u
 /* The log is longer than a memory card carries. */
 #define EVENTLOG_REFUSED_CARD_LOG 19u
 /* The image of a card is not whole blocks, or too few or too many; or it has no block at the place. */
@@ -434,6 +436,26 @@ eventlog_written eventlog_card_read(const uint8_t *image, size_t image_len, uint
  * Cost: the block is summed up once, however long the image is. */
 uint32_t eventlog_card_judge(const uint8_t *image, size_t image_len, size_t place);
 
+/* ---- windows-1252 for the screen (section 14) ----
+ *
+ * Each byte of windows-1252 is one unit of UTF-16, by the Unicode Consortium's table; bytes 81, 8D, 8F, 90 and 9D,
+ * which it leaves undefined, are units of the same number. No two bytes have one unit. A unit is two bytes, the low
+ * one first, at any address. */
+
+/* Writes bytes of windows-1252 as UTF-16 over the start of the output and answers how many bytes that took, two for
+ * each. Refused with 15 where the output has fewer. A refusal answers length 0 and leaves the output as it was; a
+ * success leaves the output past the units.
+ * Cost: one look into a table for each byte. */
+eventlog_written eventlog_windows_1252_to_utf16(const uint8_t *bytes, size_t bytes_len, uint8_t *out, size_t out_len);
+
+/* Writes UTF-16 as bytes of windows-1252 over the start of the output and answers how many, one for each unit.
+ * units_len counts bytes. Refused with 18 where units_len is odd or the table does not have a unit, and then with 15
+ * where the output has fewer bytes than there are units. A refusal answers length 0 and leaves the output as it was; a
+ * success leaves the output past the bytes.
+ * Cost: every unit is looked up twice, in a table: once to judge it, and once to write it. */
+eventlog_written eventlog_windows_1252_from_utf16(const uint8_t *units, size_t units_len, uint8_t *out,
+                                                  size_t out_len);
+
 /* ---- written here, in C: not proved ---- */
 
 /* Some bytes, to be given. */
@@ -548,6 +570,7 @@ static inline const char *eventlog_message(uint32_t number)
     case EVENTLOG_REFUSED_OUTPUT: return "the output is too short";
     case EVENTLOG_REFUSED_INPUT: return "the listing program's input is too long";
     case EVENTLOG_REFUSED_NO_STRING: return "there is no such string";
+    case EVENTLOG_REFUSED_UNIT: return "windows-1252 does not have a unit, or half a unit is left";
     case EVENTLOG_REFUSED_CARD_LOG: return "the log is longer than a card carries";
     case EVENTLOG_REFUSED_CARD_LENGTH: return "the image's length is wrong, or it has no such block";
     case EVENTLOG_REFUSED_BLOCK_CHECK: return "a block's check is wrong";

@@ -33,7 +33,7 @@ for compiler in g++ clang++; do
 done
 echo "header.c: passed, compiled $compiled times"
 
-for program in eventlog card stack; do
+for program in eventlog card windows_1252 stack; do
     cc -std=c11 "${warnings[@]}" -Iinclude "tests/$program.c" "$library" -o "$room/$program"
     "$room/$program"
 done

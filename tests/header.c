@@ -18,13 +18,13 @@ static void check(int line, int holds, const char *fact)
 #define CHECK(fact) check(__LINE__, (fact), #fact)
 #define COUNT(table) (sizeof(table) / sizeof *(table))
 
-/* Every refusal from 0 to 17, and every status but success. */
+/* Every refusal from 0 to 18, and every status but success. */
 static const uint32_t refusals[] = {
     EVENTLOG_NOT_REFUSED, EVENTLOG_REFUSED_PLACE, EVENTLOG_REFUSED_LENGTH, EVENTLOG_REFUSED_CUT_SHORT,
     EVENTLOG_REFUSED_SIGNATURE, EVENTLOG_REFUSED_LENGTH2, EVENTLOG_REFUSED_EVENT_TYPE, EVENTLOG_REFUSED_FLAGS,
     EVENTLOG_REFUSED_STRING_COUNT, EVENTLOG_REFUSED_NAME, EVENTLOG_REFUSED_SID, EVENTLOG_REFUSED_STRINGS,
     EVENTLOG_REFUSED_DATA, EVENTLOG_REFUSED_SIZE, EVENTLOG_REFUSED_LOG_END, EVENTLOG_REFUSED_OUTPUT,
-    EVENTLOG_REFUSED_INPUT, EVENTLOG_REFUSED_NO_STRING,
+    EVENTLOG_REFUSED_INPUT, EVENTLOG_REFUSED_NO_STRING, EVENTLOG_REFUSED_UNIT,
 };
 /* Those of a memory card, from 19 on. */
 static const uint32_t cards[] = {
@@ -38,7 +38,7 @@ static const uint32_t statuses[] = {
 
 static void numbers(void)
 {
-    CHECK(COUNT(refusals) == 18);
+    CHECK(COUNT(refusals) == 19);
     for (size_t i = 0; i < COUNT(refusals); i++)
         CHECK(refusals[i] == i);
     CHECK(COUNT(cards) == 6);
@@ -55,7 +55,7 @@ static void numbers(void)
 
 static void messages(void)
 {
-    const char *unknown = eventlog_message(18);
+    const char *unknown = eventlog_message(25);
     const char *all[COUNT(refusals) + COUNT(statuses) + COUNT(cards)];
     size_t count = 0;
     for (size_t i = 0; i < COUNT(refusals); i++)

@@ -70,6 +70,8 @@ static void card_blocks(void) { kept = eventlog_card_blocks(used); }
 static void card_write(void) { kept = eventlog_card_write(name, sizeof name, out, sizeof out).length; }
 static void card_read(void) { kept = eventlog_card_read(out, 400 * EVENTLOG_CARD_BLOCK, batch + used, sizeof batch - used).length; }
 static void card_judge(void) { kept = eventlog_card_judge(out, 400 * EVENTLOG_CARD_BLOCK, 399); }
+static void to_utf16(void) { kept = eventlog_windows_1252_to_utf16(name, 1000, out, sizeof out).length; }
+static void from_utf16(void) { kept = eventlog_windows_1252_from_utf16(out, 2000, batch + used, 1000).length; }
 
 static void read_with(uint32_t flags)
 {
@@ -90,7 +92,8 @@ int main(void)
         {"string_refusal", string_refusal}, {"next_string", next_string}, {"walk", walk}, {"walk_back", walk_back},
         {"write", write_event}, {"append", append}, {"read forwards", forwards}, {"read backwards", backwards},
         {"read seek", seek}, {"listing", listing}, {"card_blocks", card_blocks}, {"card_write", card_write},
-        {"card_read", card_read}, {"card_judge", card_judge},
+        {"card_read", card_read}, {"card_judge", card_judge}, {"to_utf16", to_utf16},
+        {"from_utf16", from_utf16},
     };
     memset(name, 1, sizeof name);
     /* Records numbered from 4,294,967,294 on, so that a listing has long numbers; a seek finds the third, 0. */

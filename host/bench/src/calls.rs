@@ -58,6 +58,16 @@ pub mod proved {
         eventlog::card::read(image, log).unwrap_or(0)
     }
 
+    /// Text in windows-1252 to UTF-16; answers its length.
+    pub fn to_utf16(text: &[u8], units: &mut [u8]) -> usize {
+        eventlog::windows_1252::to_utf16(text, units).unwrap_or(0)
+    }
+
+    /// And back.
+    pub fn from_utf16(units: &[u8], text: &mut [u8]) -> usize {
+        eventlog::windows_1252::from_utf16(units, text).unwrap_or(0)
+    }
+
     unsafe extern "C" {
         fn searches_text_len(t: *const u8, len: usize) -> usize;
         fn searches_strings_end(t: *const u8, len: usize, count: u32) -> usize;
@@ -146,6 +156,17 @@ macro_rules! ordinary {
 
             pub fn card_read(image: &[u8], log: &mut [u8]) -> usize {
                 $library::card::read(image, log).unwrap_or(0)
+            }
+
+            /// As calls, as the proved ones are.
+            #[inline(never)]
+            pub fn to_utf16(text: &[u8], units: &mut [u8]) -> usize {
+                $library::windows_1252::to_utf16(text, units).unwrap_or(0)
+            }
+
+            #[inline(never)]
+            pub fn from_utf16(units: &[u8], text: &mut [u8]) -> usize {
+                $library::windows_1252::from_utf16(units, text).unwrap_or(0)
             }
 
             /// As a call, as the proved ones are.

@@ -1,6 +1,7 @@
 //! How long the proved library takes, and two ordinary ones; run on request:
 //! `rt staticlib eventlog`, `rt staticlib searches`, and then
-//! `cargo run --release --offline -p bench`. It prints tables in Markdown.
+//! `cargo run --release --offline -p bench`. It prints tables in Markdown. Words
+//! after `--` choose the rows whose names have one of them.
 
 mod calls;
 mod table;
@@ -185,6 +186,37 @@ fn card_rows(table: &mut Table<3>, log: &[u8]) {
     assert!(logs.iter().all(|read| read == log), "the logs differ");
 }
 
+/// A text of 1 MiB in windows-1252 to UTF-16 and back.
+fn text_rows(table: &mut Table<3>, text: &[u8]) {
+    let mut units = [(); 3].map(|()| vec![0; 2 * text.len()]);
+    let [a, b, c] = &mut units;
+    table.row(
+        "windows-1252 to UTF-16, 1 MiB of text",
+        SEARCH_ROUNDS,
+        1.0,
+        &mut [
+            &mut || proved::to_utf16(black_box(text), a),
+            &mut || tuned::to_utf16(black_box(text), b),
+            &mut || untuned::to_utf16(black_box(text), c),
+        ],
+    );
+    assert!(units[0] == units[1], "the units differ");
+    let units = &units[0][..];
+    let mut texts = [(); 3].map(|()| vec![0; text.len()]);
+    let [a, b, c] = &mut texts;
+    table.row(
+        "UTF-16 to windows-1252, the same text",
+        SEARCH_ROUNDS,
+        1.0,
+        &mut [
+            &mut || proved::from_utf16(black_box(units), a),
+            &mut || tuned::from_utf16(black_box(units), b),
+            &mut || untuned::from_utf16(black_box(units), c),
+        ],
+    );
+    assert!(texts.iter().all(|back| back == text), "the texts differ");
+}
+
 /// Runs of strings to be searched, at even and at odd addresses.
 struct Runs {
     name: String,
@@ -288,6 +320,14 @@ fn main() {
     push_strings(&mut many_strings, rng, STRINGS, 126);
     let many_strings = many_strings.encode(None);
 
+    // One byte in 64 is a mark above 0x7F.
+    let text_1252: Vec<u8> = (0..1 << 20)
+        .map(|_| match rng.once_in(64) {
+            true => rng.range(0x80, 0xFF) as u8,
+            false => rng.range(0x20, 0x7E) as u8,
+        })
+        .collect();
+
     let lengths = [(8, "8"), (30, "30"), (300, "300"), (30_000, "30,000")];
     let mut of_each = |what: &str| -> Vec<Runs> {
         let runs = lengths.map(|(n, units)| {
@@ -314,6 +354,7 @@ fn main() {
         name_row(&mut calls, &long_name);
         string_rows(&mut calls, &many_strings);
         card_rows(&mut calls, &batches[0].1);
+        text_rows(&mut calls, &text_1252);
     }
     println!(
         "One search, in ns. Ranges over {RUNS} runs of the minima of {SEARCH_ROUNDS} rounds.\n"

@@ -8,14 +8,18 @@ pub type Work<'a> = &'a mut dyn FnMut() -> usize;
 /// The rows by name; each has the times of every run.
 pub struct Table<const N: usize> {
     head: [&'static str; N],
+    only: Vec<String>,
     rows: Vec<(String, Vec<[f64; N]>)>,
 }
 
 impl<const N: usize> Table<N> {
-    /// The first column is compared with the others.
+    /// The first column is compared with the others. The program's arguments, if
+    /// there are any, say which rows are measured: those whose name has one. The
+    /// others are only run once.
     pub fn new(head: [&'static str; N]) -> Self {
         Table {
             head,
+            only: std::env::args().skip(1).collect(),
             rows: Vec::new(),
         }
     }
@@ -23,6 +27,8 @@ impl<const N: usize> Table<N> {
     /// The minima of some rounds; in each the works are done in turn, and another
     /// one goes first. The times are divided by `parts`.
     pub fn row(&mut self, name: &str, rounds: usize, parts: f64, works: &mut [Work<'_>; N]) {
+        let chosen = self.only.is_empty() || self.only.iter().any(|part| name.contains(part));
+        let rounds = if chosen { rounds } else { 0 };
         let mut best = [Duration::MAX; N];
         // One round more, to warm up.
         for round in 0..=rounds {
@@ -38,6 +44,9 @@ impl<const N: usize> Table<N> {
             }
             let same = answers.iter().all(|answer| *answer == answers[0]);
             assert!(same, "{name}: the answers differ: {answers:?}");
+        }
+        if !chosen {
+            return;
         }
         let times = best.map(|time| time.as_secs_f64() / parts);
         match self.rows.iter_mut().find(|row| row.0 == name) {

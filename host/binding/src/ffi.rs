@@ -194,6 +194,18 @@ unsafe extern "C" {
         out_len: usize,
     ) -> Written;
     fn eventlog_card_judge(image: *const u8, image_len: usize, place: usize) -> u32;
+    fn eventlog_windows_1252_to_utf16(
+        bytes: *const u8,
+        bytes_len: usize,
+        out: *mut u8,
+        out_len: usize,
+    ) -> Written;
+    fn eventlog_windows_1252_from_utf16(
+        units: *const u8,
+        units_len: usize,
+        out: *mut u8,
+        out_len: usize,
+    ) -> Written;
 }
 
 pub(crate) fn step(buffer: &[u8], at: usize) -> Stepped {
@@ -354,6 +366,18 @@ pub(crate) fn card_read(image: &[u8], out: &mut [u8]) -> Written {
 pub(crate) fn card_judge(image: &[u8], place: usize) -> u32 {
     // SAFETY: as in `step`.
     unsafe { eventlog_card_judge(image.as_ptr(), image.len(), place) }
+}
+
+pub(crate) fn windows_1252_to_utf16(bytes: &[u8], out: &mut [u8]) -> Written {
+    let (len, room) = (bytes.len(), out.len());
+    // SAFETY: as in `listing`.
+    unsafe { eventlog_windows_1252_to_utf16(bytes.as_ptr(), len, out.as_mut_ptr(), room) }
+}
+
+pub(crate) fn windows_1252_from_utf16(units: &[u8], out: &mut [u8]) -> Written {
+    let (len, room) = (units.len(), out.len());
+    // SAFETY: as in `listing`.
+    unsafe { eventlog_windows_1252_from_utf16(units.as_ptr(), len, out.as_mut_ptr(), room) }
 }
 
 #[cfg(test)]

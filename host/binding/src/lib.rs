@@ -47,6 +47,7 @@ mod record;
 mod refusal;
 mod text;
 mod walk;
+pub mod windows_1252;
 mod write;
 
 pub use constants::{

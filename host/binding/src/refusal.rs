@@ -50,6 +50,9 @@ pub enum Refusal {
     /// There is no such string: the record has not so many, or none starts at
     /// the place of a run.
     NoString = 17,
+    /// A unit is none of [windows-1252](crate::windows_1252), or half a unit is
+    /// left.
+    Unit = 18,
     /// The log is longer than a [card](crate::card) carries.
     CardLog = 19,
     /// A card's image is not whole blocks, or too few or too many, or it has no
@@ -96,6 +99,7 @@ impl Refusal {
             14 => Refusal::LogEnd,
             15 => Refusal::Output,
             17 => Refusal::NoString,
+            18 => Refusal::Unit,
             19 => Refusal::CardLog,
             20 => Refusal::CardLength,
             21 => Refusal::BlockCheck,
@@ -131,6 +135,7 @@ impl fmt::Display for Refusal {
             Refusal::LogEnd => "the log does not end with a good record",
             Refusal::Output => "the output is too short",
             Refusal::NoString => "there is no such string",
+            Refusal::Unit => "windows-1252 does not have a unit, or half a unit is left",
             Refusal::CardLog => "the log is longer than a card carries",
             Refusal::CardLength => "the image's length is wrong, or it has no such block",
             Refusal::BlockCheck => "a block's check is wrong",

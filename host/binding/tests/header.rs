@@ -81,6 +81,7 @@ fn words() {
         ("LOG_END", Refusal::LogEnd),
         ("OUTPUT", Refusal::Output),
         ("NO_STRING", Refusal::NoString),
+        ("UNIT", Refusal::Unit),
         ("CARD_LOG", Refusal::CardLog),
         ("CARD_LENGTH", Refusal::CardLength),
         ("BLOCK_CHECK", Refusal::BlockCheck),

@@ -7,6 +7,7 @@ pub mod card;
 pub mod check;
 pub mod make;
 pub mod random;
+pub mod windows_1252;
 
 use check::{Check, Handles, Request, Tally};
 use make::{Made, Size, FIELDS};

@@ -1,7 +1,8 @@
 //! Windows event records (EVENTLOGRECORD of MS-EVEN 2.2.3), Unicode only.
 //!
 //! The calls of Rule 1.4 of `docs/SPECIFICATION.md`: steps and walks in both
-//! directions, writing, appending, reads of a log, the listing, and the card. Every part
+//! directions, writing, appending, reads of a log, the listing, the card, and
+//! windows-1252. Every part
 //! handed back borrows the caller's bytes; only [`listing`] allocates.
 //!
 //! The crate `simple` is this library with the feature `simple-search`: all the
@@ -21,6 +22,7 @@ mod search;
 mod search_tests;
 mod serve;
 mod walk;
+pub mod windows_1252;
 mod write;
 
 pub use judge::{judge, judge_back};

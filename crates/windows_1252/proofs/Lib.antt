@@ -1,0 +1,3 @@
+mod Finding
+mod Putting
+mod Refusing

@@ -1,0 +1,37 @@
+-- What the code's own functions promise. Nothing of it has to be believed: the promises of the calls do not cite it.
+-- Assumes nothing.
+use mathlib.Core.Path.{_≡_}
+use mathlib.Core.Bool.{Bool, cond}
+use mathlib.Core.List.{List, [], _∷_}
+use Prim.Native.Nat.{ℕ, _%_}
+use lib.ListN.{getD}
+use lib.Dec.{ltb}
+use Rattle.windows_1252.specs.Table.{table}
+
+-- the bytes of the units from 256 on, each at its unit's remainder by 79
+unfoldable pub candidateBytes : List ℕ
+candidateBytes =
+    0x91 ∷ 0x92 ∷ 0x82 ∷ 0x00 ∷ 0x93 ∷ 0x94 ∷ 0x84 ∷ 0x83
+    ∷ 0x86 ∷ 0x87 ∷ 0x95 ∷ 0x00 ∷ 0x00 ∷ 0x00 ∷ 0x85 ∷ 0x00
+    ∷ 0x00 ∷ 0x00 ∷ 0x00 ∷ 0x00 ∷ 0x00 ∷ 0x98 ∷ 0x8C ∷ 0x9C
+    ∷ 0x89 ∷ 0x00 ∷ 0x00 ∷ 0x00 ∷ 0x00 ∷ 0x99 ∷ 0x00 ∷ 0x00
+    ∷ 0x00 ∷ 0x8B ∷ 0x9B ∷ 0x00 ∷ 0x8A ∷ 0x9A ∷ 0x00 ∷ 0x00
+    ∷ 0x00 ∷ 0x00 ∷ 0x00 ∷ 0x00 ∷ 0x00 ∷ 0x00 ∷ 0x00 ∷ 0x00
+    ∷ 0x00 ∷ 0x00 ∷ 0x00 ∷ 0x00 ∷ 0x00 ∷ 0x00 ∷ 0x00 ∷ 0x00
+    ∷ 0x00 ∷ 0x00 ∷ 0x00 ∷ 0x00 ∷ 0x9F ∷ 0x00 ∷ 0x00 ∷ 0x00
+    ∷ 0x00 ∷ 0x8E ∷ 0x9E ∷ 0x00 ∷ 0x00 ∷ 0x80 ∷ 0x00 ∷ 0x00
+    ∷ 0x00 ∷ 0x00 ∷ 0x96 ∷ 0x97 ∷ 0x00 ∷ 0x00 ∷ 0x88
+    ∷ []
+
+-- the one byte that a unit can be
+unfoldable pub candidateOf : ℕ → ℕ
+candidateOf u = cond (ltb u 256) u (getD candidateBytes (u % 79) 0)
+
+-- what the code lends are the two tables
+pub record TablesAre (us bs : List ℕ) : Type 0 where
+  pub units : us ≡ table
+  pub candidates : bs ≡ candidateBytes
+
+-- the refusal of units, by whether they are right and whether their bytes fit the output
+abbrev pub refusalOf : Bool → Bool → ℕ
+refusalOf right fits = cond right (cond fits 0 15) 18
