@@ -3,6 +3,9 @@
 
 #include <stdio.h>
 
+/* The log's texts are UTF-16. */
+static const uint32_t edition = EVENTLOG_UNICODE;
+
 static uint8_t event_log[1 << 20], batch[EVENTLOG_MAX_READ];
 
 static int fail(const char *call, uint32_t number)
@@ -26,16 +29,18 @@ static void print_text(const char *before, const uint8_t *buffer, eventlog_part 
 static int print_records(const uint8_t *buffer, size_t len)
 {
     for (size_t at = 0; at < len;) {
-        eventlog_stepped step = eventlog_step(buffer, len, at);
+        eventlog_stepped step = eventlog_step(edition, buffer, len, at);
         if (step.refusal != EVENTLOG_NOT_REFUSED)
             return fail("step", step.refusal);
         eventlog_record found = step.found;
         printf("%u: event %u, type %u", found.fields.record_number, found.fields.event_id, found.fields.event_type);
         print_text(", from ", buffer, found.source_name, "");
         print_text(" on ", buffer, found.computer_name, "\n");
-        eventlog_next next = eventlog_next_string(buffer, len, found.strings, found.strings.at);
-        for (; next.refusal == EVENTLOG_NOT_REFUSED; next = eventlog_next_string(buffer, len, found.strings, next.next))
+        eventlog_next next = eventlog_next_string(edition, buffer, len, found.strings, found.strings.at);
+        while (next.refusal == EVENTLOG_NOT_REFUSED) {
             print_text("    \"", buffer, next.string, "\"\n");
+            next = eventlog_next_string(edition, buffer, len, found.strings, next.next);
+        }
         at += found.length;
     }
     return 0;
@@ -58,7 +63,7 @@ int main(int argc, char **argv)
         .source_name = EVENTLOG_NAME(u"Scale"), .computer_name = EVENTLOG_NAME(u"T1"),
         .strings = EVENTLOG_STRINGS(u"load cell replaced\0zero point set"),
     };
-    eventlog_appended appended = eventlog_append_event(event_log, sizeof event_log, used, &repair);
+    eventlog_appended appended = eventlog_append_event(edition, event_log, sizeof event_log, used, &repair);
     if (appended.refusal != EVENTLOG_NOT_REFUSED)
         return fail("append", appended.refusal);
 
@@ -66,8 +71,8 @@ int main(int argc, char **argv)
     uint32_t newest_first = EVENTLOG_SEQUENTIAL | EVENTLOG_BACKWARDS;
     eventlog_handle handle = eventlog_fresh();
     for (;;) {
-        eventlog_answer answer = eventlog_read(handle, event_log, appended.used, newest_first, 0, sizeof batch, batch,
-                                               sizeof batch);
+        eventlog_answer answer = eventlog_read(edition, handle, event_log, appended.used, newest_first, 0,
+                                               sizeof batch, batch, sizeof batch);
         if (answer.status == EVENTLOG_STATUS_END_OF_FILE)
             return 0;
         if (answer.status != EVENTLOG_STATUS_SUCCESS)

@@ -14,8 +14,12 @@
  *
  * The rules that are named here by their numbers stand in docs/SPECIFICATION.md.
  *
- * Texts are UTF-16: a unit has two bytes, the low one first, as all numbers in a record have it. Units are not
- * judged, so that a text may hold half of a surrogate pair (Rules 1.6, 3.2 and 3.4).
+ * Names and strings are texts of units, and the edition says how many bytes a unit has. The caller gives it to each
+ * call that reads, walks, writes, appends or serves: EVENTLOG_UNICODE, 0, or EVENTLOG_ANSI; every number but 0 is
+ * ANSI. In Unicode a unit has two bytes, UTF-16, the low one first, as all numbers in a record have it. In ANSI it has
+ * one byte. A zero unit is a unit whose bytes are all 0. All else is the same in both editions. Units are not judged:
+ * a text may hold half of a surrogate pair, or any byte but 0 (Rules 1.6, 3.2 and 3.4). A record does not tell its
+ * edition, and some bytes are a good record in both; all records of a batch or a log are taken to have the one given.
  *
  * A record, places counted from its start (section 2):
  *
@@ -36,7 +40,7 @@
  *       44      4  UserSidOffset
  *       48      4  DataLength
  *       52      4  DataOffset
- *       56         SourceName and its zero unit
+ *       56         SourceName and its zero unit, of 2 bytes in Unicode, 1 in ANSI
  *                  Computername and its zero unit
  *                  a gap of any length
  *                  the SID
@@ -69,6 +73,10 @@ extern "C" {
 
 #define EVENTLOG_VERSION "0.1.0"
 
+/* Editions. Every other number is ANSI too. */
+#define EVENTLOG_UNICODE 0u
+#define EVENTLOG_ANSI 1u
+
 /* Why a call refuses (Rule 4.2). Reading tests 1 to 13 in this order, and the first test that fails decides. A
  * record's refusal comes with the field that failed (Rule 4.25): its place, counted from the record's start. The
  * field is named here beside each number; for a success and for all others it is 0. */
@@ -89,8 +97,8 @@ extern "C" {
 #define EVENTLOG_REFUSED_FLAGS 7u
 /* There are more than 256 strings. Field 26. */
 #define EVENTLOG_REFUSED_STRING_COUNT 8u
-/* A name does not end before Length2 (Rule 3.5); for writing, it is not whole units without a zero one. Field: where
- * that name starts, 56 or Computername's place. */
+/* A name does not end before Length2 (Rule 3.5); for writing, it holds a zero unit, or in Unicode has an odd number of
+ * bytes. Field: where that name starts, 56 or Computername's place. */
 #define EVENTLOG_REFUSED_NAME 9u
 /* A SID is present, and its form, its offset or its end is wrong (Rule 4.6). Field 44, UserSidOffset. */
 #define EVENTLOG_REFUSED_SID 10u
@@ -282,31 +290,34 @@ typedef struct {
     eventlog_handle handle;
 } eventlog_answer;
 
-/* ---- the proved calls ---- */
+/* ---- the proved calls ----
+ *
+ * The edition, EVENTLOG_UNICODE or EVENTLOG_ANSI, comes first in each that looks at texts. */
 
 /* The record that starts at a place, or its refusal, 1 to 13.
  * Cost: its names and strings are looked at twice, to judge and to show. */
-eventlog_stepped eventlog_step(const uint8_t *buffer, size_t buffer_len, size_t at);
+eventlog_stepped eventlog_step(uint32_t edition, const uint8_t *buffer, size_t buffer_len, size_t at);
 
 /* The record that ends at a place, or its refusal, 1 to 13: the bytes ahead are here those before the place, and
  * Length2 says in 2 and 3 how many of them are the record (Rule 4.5).
  * Cost: as eventlog_step. */
-eventlog_stepped eventlog_step_back(const uint8_t *buffer, size_t buffer_len, size_t end);
+eventlog_stepped eventlog_step_back(uint32_t edition, const uint8_t *buffer, size_t buffer_len, size_t end);
 
 /* The refusal of the record that starts at a place, 1 to 13, and its field; 0 and 0 where nothing is refused.
  * Cost: its names and strings are looked at once. */
-eventlog_refused eventlog_refusal(const uint8_t *buffer, size_t buffer_len, size_t at);
+eventlog_refused eventlog_refusal(uint32_t edition, const uint8_t *buffer, size_t buffer_len, size_t at);
 
 /* Where string k, counted from 0, of the record that starts at a place lies, without its zero unit; at 0 with
  * length 0 where it is refused.
  * Cost: as eventlog_step, and the strings up to this one once more. Asked for each string in turn, that is the
  * number of strings times the record; eventlog_next_string takes the run once. */
-eventlog_part eventlog_string(const uint8_t *buffer, size_t buffer_len, size_t at, uint32_t k);
+eventlog_part eventlog_string(uint32_t edition, const uint8_t *buffer, size_t buffer_len, size_t at, uint32_t k);
 
 /* The refusal of string k: the record's, 1 to 13, with its field; 17 where k is not below its number of strings, with
  * field 0; else 0 and 0.
  * Cost: as eventlog_step. */
-eventlog_refused eventlog_string_refusal(const uint8_t *buffer, size_t buffer_len, size_t at, uint32_t k);
+eventlog_refused eventlog_string_refusal(uint32_t edition, const uint8_t *buffer, size_t buffer_len, size_t at,
+                                         uint32_t k);
 
 /* The string that starts at a place of a run of strings, and the place after its zero unit. The run is the strings of
  * a record as a step answers them, or any other part; no record is judged. Ask at the run's own place first, and then
@@ -317,23 +328,24 @@ eventlog_refused eventlog_string_refusal(const uint8_t *buffer, size_t buffer_le
  * lie in the buffer.
  * Cost: this string, or where it is refused the rest of the run, is looked at once; so all strings of a run cost the
  * run once. */
-eventlog_next eventlog_next_string(const uint8_t *buffer, size_t buffer_len, eventlog_part run, size_t place);
+eventlog_next eventlog_next_string(uint32_t edition, const uint8_t *buffer, size_t buffer_len, eventlog_part run,
+                                   size_t place);
 
 /* The walk of a batch from the front, to its end (refusal 0) or to a record that is refused with 1 to 13. An
  * empty batch has no records and no refusal.
  * Cost: as eventlog_refusal for each record. */
-eventlog_walked eventlog_walk(const uint8_t *buffer, size_t buffer_len);
+eventlog_walked eventlog_walk(uint32_t edition, const uint8_t *buffer, size_t buffer_len);
 
 /* The walk of a batch from the rear, to its start (refusal 0) or to a record that eventlog_step_back refuses with
  * 1 to 13. Where one walk refuses, so does the other; their answers may differ.
  * Cost: as eventlog_walk. */
-eventlog_walked eventlog_walk_back(const uint8_t *buffer, size_t buffer_len);
+eventlog_walked eventlog_walk_back(uint32_t edition, const uint8_t *buffer, size_t buffer_len);
 
 /* Writes a record over the start of the output and answers its Length (section 6). A name is given without its
  * zero unit; strings is all the strings, each with its zero unit, one after another. An empty sid, strings or
  * event_data means that the part is absent. Ignored bytes (Rule 2.21) become zero. Refused with the first of:
  *    6, 7, 8  as in reading;
- *    9  the bytes of a name are an odd number, or hold a zero unit;
+ *    9  the bytes of a name hold a zero unit, or are in Unicode an odd number;
  *   10  sid has bytes and is no SID;
  *   11  strings is something else than num_strings strings, each with its zero unit;
  *   12  event_data has more bytes than EVENTLOG_MAX_DATA;
@@ -342,7 +354,7 @@ eventlog_walked eventlog_walk_back(const uint8_t *buffer, size_t buffer_len);
  * A refusal answers length 0 and leaves the output as it was; a success leaves the output past Length.
  * eventlog_write_event takes the same as a struct.
  * Cost: the names and strings are looked at once, and every byte is copied once. */
-eventlog_written eventlog_write(eventlog_fields fields,
+eventlog_written eventlog_write(uint32_t edition, eventlog_fields fields,
                                 const uint8_t *source_name, size_t source_name_len,
                                 const uint8_t *computer_name, size_t computer_name_len,
                                 const uint8_t *sid, size_t sid_len,
@@ -354,11 +366,12 @@ eventlog_written eventlog_write(eventlog_fields fields,
  * used is 0, else the last record's plus one; after 4,294,967,295 comes 0. The parts are as in eventlog_write.
  * Refused with 1 where used is more than log_len; with 14 where used is not 0 and eventlog_step_back refuses
  * there, with the field of that refusal; then as in eventlog_write, the rest of the log being the output. All others
- * have field 0. Records before the last are not
- * judged. A refusal answers the old used length and leaves the log as it was; a success leaves the log before
- * the old used length and past the new one. eventlog_append_event takes the same as a struct.
+ * have field 0. The edition is that of the last record and of the new one. Records before the last are not judged. A
+ * refusal answers the old used length and leaves the log as it was; a success leaves the log before the old used
+ * length and past the new one. eventlog_append_event takes the same as a struct.
  * Cost: as eventlog_step_back and eventlog_write, however long the log is. */
-eventlog_appended eventlog_append(uint8_t *log, size_t log_len, size_t used, eventlog_unnumbered fields,
+eventlog_appended eventlog_append(uint32_t edition, uint8_t *log, size_t log_len, size_t used,
+                                  eventlog_unnumbered fields,
                                   const uint8_t *source_name, size_t source_name_len,
                                   const uint8_t *computer_name, size_t computer_name_len,
                                   const uint8_t *sid, size_t sid_len,
@@ -388,17 +401,19 @@ eventlog_handle eventlog_fresh(void);
  * of the last record copied, backwards its start; the rest of the output is left.
  * Cost: as eventlog_refusal for each record copied and for the one that stops the read, and every byte is copied
  * once; a seek walks from the front up to the record first. */
-eventlog_answer eventlog_read(eventlog_handle handle, const uint8_t *log, size_t log_len, uint32_t flags,
-                              uint32_t record_number, size_t size, uint8_t *out, size_t out_len);
+eventlog_answer eventlog_read(uint32_t edition, eventlog_handle handle, const uint8_t *log, size_t log_len,
+                              uint32_t flags, uint32_t record_number, size_t size, uint8_t *out, size_t out_len);
 
 /* Writes the listing of a batch over the start of the output and answers the length of the text: a line
  * `records N`, then for each record from the front a line `start Length number`. Where eventlog_walk refuses
  * the batch, the text is only the line `refused K at P field F`, the refusal, the place of the record and the
- * field that failed, and the call still answers refusal 0. Numbers are decimal; each line ends with one newline, and no zero byte follows. An
- * output that is shorter than the text is refused with 15 and length 0, and left as it was. Else the output past
- * the text is left. EVENTLOG_LISTING_ROOM bytes more than the batch are always enough.
+ * field that failed, and the call still answers refusal 0. Numbers are decimal; each line ends with one newline,
+ * and no zero byte follows. An output that is shorter than the text is refused with 15 and length 0, and left as it
+ * was. Else the output past the text is left. EVENTLOG_LISTING_ROOM bytes more than the batch are always enough.
+ * The listing program lists Unicode.
  * Cost: the records are stepped over twice, once to measure the text. */
-eventlog_written eventlog_listing(const uint8_t *buffer, size_t buffer_len, uint8_t *out, size_t out_len);
+eventlog_written eventlog_listing(uint32_t edition, const uint8_t *buffer, size_t buffer_len, uint8_t *out,
+                                  size_t out_len);
 
 /* ---- a memory card to carry a log (section 13) ----
  *
@@ -464,7 +479,7 @@ typedef struct {
     size_t len;
 } eventlog_bytes;
 
-/* An event without its record number: what appending is given besides the log. */
+/* An event without its record number: what appending is given besides the edition and the log. */
 typedef struct {
     eventlog_unnumbered fields;
     eventlog_bytes source_name;
@@ -474,19 +489,20 @@ typedef struct {
     eventlog_bytes event_data;
 } eventlog_event;
 
-/* Initialisers of an eventlog_bytes from a literal of UTF-16 (C11, C++11): a name, u"Scale", and a run of strings,
- * u"first\0second". The compiler adds the last string's zero unit. */
+/* Initialisers of an eventlog_bytes from a literal: a name, and a run of strings. For Unicode it is one of UTF-16 (C11,
+ * C++11), u"Scale" and u"first\0second"; for ANSI one of bytes, "Scale" and "first\0second". The compiler adds the last
+ * string's zero unit. */
 #ifdef __cplusplus
-#define EVENTLOG_NAME(literal) {reinterpret_cast<const uint8_t *>(literal), sizeof(literal) - 2}
+#define EVENTLOG_NAME(literal) {reinterpret_cast<const uint8_t *>(literal), sizeof(literal) - sizeof *(literal)}
 #define EVENTLOG_STRINGS(literal) {reinterpret_cast<const uint8_t *>(literal), sizeof(literal)}
 #else
-#define EVENTLOG_NAME(literal) {(const uint8_t *)(literal), sizeof(literal) - 2}
+#define EVENTLOG_NAME(literal) {(const uint8_t *)(literal), sizeof(literal) - sizeof *(literal)}
 #define EVENTLOG_STRINGS(literal) {(const uint8_t *)(literal), sizeof(literal)}
 #endif
 
 /* eventlog_write of an event. */
-static inline eventlog_written eventlog_write_event(uint32_t record_number, const eventlog_event *event,
-                                                    uint8_t *out, size_t out_len)
+static inline eventlog_written eventlog_write_event(uint32_t edition, uint32_t record_number,
+                                                    const eventlog_event *event, uint8_t *out, size_t out_len)
 {
     eventlog_fields fields;
     fields.record_number = record_number;
@@ -497,7 +513,7 @@ static inline eventlog_written eventlog_write_event(uint32_t record_number, cons
     fields.num_strings = event->fields.num_strings;
     fields.event_category = event->fields.event_category;
     fields.reserved_flags = event->fields.reserved_flags;
-    return eventlog_write(fields,
+    return eventlog_write(edition, fields,
                           event->source_name.bytes, event->source_name.len,
                           event->computer_name.bytes, event->computer_name.len,
                           event->sid.bytes, event->sid.len,
@@ -507,10 +523,10 @@ static inline eventlog_written eventlog_write_event(uint32_t record_number, cons
 }
 
 /* eventlog_append of an event. */
-static inline eventlog_appended eventlog_append_event(uint8_t *log, size_t log_len, size_t used,
+static inline eventlog_appended eventlog_append_event(uint32_t edition, uint8_t *log, size_t log_len, size_t used,
                                                       const eventlog_event *event)
 {
-    return eventlog_append(log, log_len, used, event->fields,
+    return eventlog_append(edition, log, log_len, used, event->fields,
                            event->source_name.bytes, event->source_name.len,
                            event->computer_name.bytes, event->computer_name.len,
                            event->sid.bytes, event->sid.len,
@@ -527,9 +543,9 @@ static inline eventlog_bytes eventlog_bytes_of(const uint8_t *buffer, eventlog_p
     return own;
 }
 
-/* The event of a record that was found in the buffer: to be written or appended again. Its parts are the
- * buffer's own bytes. Written again, its record is at most four bytes longer than the one that was found; where that
- * would be above EVENTLOG_MAX_LENGTH, it is refused with 2 (Rule 6.15). */
+/* The event of a record that was found in the buffer: to be written or appended again, in the same edition. Its parts
+ * are the buffer's own bytes. Written again, its record is at most four bytes longer than the one that was found;
+ * where that would be above EVENTLOG_MAX_LENGTH, it is refused with 2 (Rule 6.15). */
 static inline eventlog_event eventlog_event_of(const uint8_t *buffer, const eventlog_record *record)
 {
     eventlog_event event;

@@ -1,4 +1,5 @@
-/* The C border: every call with the samples S and T, what it refuses, and which bytes it leaves alone. */
+/* The C border: every call with the samples S and T in both editions, what it refuses, and which bytes it leaves
+ * alone. */
 #include "eventlog.h"
 
 #include <stdio.h>
@@ -39,6 +40,8 @@ _Static_assert(WIDTH(eventlog_answer, status) == 4 && WIDTH(eventlog_answer, rea
 _Static_assert(WIDTH(eventlog_answer, needed) == 8, "eventlog_answer");
 
 #define COUNT(table) (sizeof(table) / sizeof *(table))
+
+#define UNICODE EVENTLOG_UNICODE
 
 static int failed;
 
@@ -103,7 +106,7 @@ static const eventlog_fields fields_s = {.record_number = S_NUMBER};
 static const eventlog_fields fields_t = {.record_number = T_NUMBER, FIELDS_OF_T};
 
 /* The proved calls, without the header's own functions. */
-static eventlog_written write_event(uint32_t number, eventlog_event e, uint8_t *out, size_t out_len)
+static eventlog_written write_event(uint32_t edition, uint32_t number, eventlog_event e, uint8_t *out, size_t out_len)
 {
     eventlog_fields fields = {
         .record_number = number, .time_generated = e.fields.time_generated,
@@ -111,14 +114,14 @@ static eventlog_written write_event(uint32_t number, eventlog_event e, uint8_t *
         .num_strings = e.fields.num_strings, .event_category = e.fields.event_category,
         .reserved_flags = e.fields.reserved_flags,
     };
-    return eventlog_write(fields, e.source_name.bytes, e.source_name.len, e.computer_name.bytes, e.computer_name.len,
-                          e.sid.bytes, e.sid.len, e.strings.bytes, e.strings.len, e.event_data.bytes,
-                          e.event_data.len, out, out_len);
+    return eventlog_write(edition, fields, e.source_name.bytes, e.source_name.len, e.computer_name.bytes,
+                          e.computer_name.len, e.sid.bytes, e.sid.len, e.strings.bytes, e.strings.len,
+                          e.event_data.bytes, e.event_data.len, out, out_len);
 }
 
-static eventlog_appended append_event(uint8_t *log, size_t log_len, size_t used, eventlog_event e)
+static eventlog_appended append_event(uint32_t edition, uint8_t *log, size_t log_len, size_t used, eventlog_event e)
 {
-    return eventlog_append(log, log_len, used, e.fields, e.source_name.bytes, e.source_name.len,
+    return eventlog_append(edition, log, log_len, used, e.fields, e.source_name.bytes, e.source_name.len,
                            e.computer_name.bytes, e.computer_name.len, e.sid.bytes, e.sid.len, e.strings.bytes,
                            e.strings.len, e.event_data.bytes, e.event_data.len);
 }
@@ -198,13 +201,14 @@ static void step_refuses(int line, eventlog_stepped x, size_t at, uint32_t refus
 
 static void steps_find(void)
 {
-    finds(__LINE__, eventlog_step(batch, END, S), S, record_s(0));
-    finds(__LINE__, eventlog_step(batch, END, T), T, record_t(T));
-    finds(__LINE__, eventlog_step(batch + T, T_LENGTH, 0), 0, record_t(0));
-    finds(__LINE__, eventlog_step_back(batch, END, T), T, record_s(0));
-    finds(__LINE__, eventlog_step_back(batch, END, END), END, record_t(T));
-    finds(__LINE__, eventlog_step_back(batch + T, T_LENGTH, T_LENGTH), T_LENGTH, record_t(0));
-    CHECK(refused(eventlog_refusal(batch, END, S), 0, 0) && refused(eventlog_refusal(batch, END, T), 0, 0));
+    finds(__LINE__, eventlog_step(UNICODE, batch, END, S), S, record_s(0));
+    finds(__LINE__, eventlog_step(UNICODE, batch, END, T), T, record_t(T));
+    finds(__LINE__, eventlog_step(UNICODE, batch + T, T_LENGTH, 0), 0, record_t(0));
+    finds(__LINE__, eventlog_step_back(UNICODE, batch, END, T), T, record_s(0));
+    finds(__LINE__, eventlog_step_back(UNICODE, batch, END, END), END, record_t(T));
+    finds(__LINE__, eventlog_step_back(UNICODE, batch + T, T_LENGTH, T_LENGTH), T_LENGTH, record_t(0));
+    CHECK(refused(eventlog_refusal(UNICODE, batch, END, S), 0, 0));
+    CHECK(refused(eventlog_refusal(UNICODE, batch, END, T), 0, 0));
 }
 
 /* Places where no record of the first len bytes starts or ends: the refusals of both steps. All have field 0. */
@@ -228,13 +232,13 @@ static void steps_refuse_places(void)
     for (size_t i = 0; i < COUNT(misplaced); i++) {
         int line = misplaced[i].line;
         size_t len = misplaced[i].len, at = misplaced[i].at;
-        step_refuses(line, eventlog_step(batch, len, at), at, misplaced[i].front, 0);
-        step_refuses(line, eventlog_step_back(batch, len, at), at, misplaced[i].rear, 0);
-        CHECK_AT(line, refused(eventlog_refusal(batch, len, at), misplaced[i].front, 0));
+        step_refuses(line, eventlog_step(UNICODE, batch, len, at), at, misplaced[i].front, 0);
+        step_refuses(line, eventlog_step_back(UNICODE, batch, len, at), at, misplaced[i].rear, 0);
+        CHECK_AT(line, refused(eventlog_refusal(UNICODE, batch, len, at), misplaced[i].front, 0));
     }
-    step_refuses(__LINE__, eventlog_step(NULL, 0, 0), 0, 1, 0);
-    step_refuses(__LINE__, eventlog_step_back(NULL, 0, 0), 0, 1, 0);
-    CHECK(refused(eventlog_refusal(NULL, 0, 0), 1, 0));
+    step_refuses(__LINE__, eventlog_step(UNICODE, NULL, 0, 0), 0, 1, 0);
+    step_refuses(__LINE__, eventlog_step_back(UNICODE, NULL, 0, 0), 0, 1, 0);
+    CHECK(refused(eventlog_refusal(UNICODE, NULL, 0, 0), 1, 0));
 }
 
 /* One byte of S or T is another: the refusals from the front and from the rear, each with its field. */
@@ -309,17 +313,17 @@ static void gaps_before_the_first_part(void)
         want.sid.at = 74 + gap;
         want.strings.at = 86 + gap;
         want.event_data.at = 92 + gap;
-        finds(__LINE__, eventlog_step(r, length, 0), 0, want);
-        finds(__LINE__, eventlog_step_back(r, length, length), length, want);
+        finds(__LINE__, eventlog_step(UNICODE, r, length, 0), 0, want);
+        finds(__LINE__, eventlog_step_back(UNICODE, r, length, length), length, want);
         /* written again it is T */
         eventlog_event e = eventlog_event_of(r, &want);
-        eventlog_written w = eventlog_write_event(T_NUMBER, &e, again, sizeof again);
+        eventlog_written w = eventlog_write_event(UNICODE, T_NUMBER, &e, again, sizeof again);
         CHECK(w.refusal == 0 && w.length == T_LENGTH && memcmp(again, batch + T, T_LENGTH) == 0);
         r[44] = 73;
-        step_refuses(__LINE__, eventlog_step(r, length, 0), 0, 10, 44);
+        step_refuses(__LINE__, eventlog_step(UNICODE, r, length, 0), 0, 10, 44);
         r[44] = (uint8_t)(74 + gap);
         r[36]++;
-        step_refuses(__LINE__, eventlog_step(r, length, 0), 0, 11, 36);
+        step_refuses(__LINE__, eventlog_step(UNICODE, r, length, 0), 0, 11, 36);
     }
     /* without a part, everything up to Length2 is gap */
     uint8_t s[S_LENGTH + 8];
@@ -330,8 +334,8 @@ static void gaps_before_the_first_part(void)
     eventlog_record want = record_s(0);
     want.length = sizeof s;
     want.sid.at = want.strings.at = want.event_data.at = sizeof s - 4;
-    finds(__LINE__, eventlog_step(s, sizeof s, 0), 0, want);
-    finds(__LINE__, eventlog_step_back(s, sizeof s, sizeof s), sizeof s, want);
+    finds(__LINE__, eventlog_step(UNICODE, s, sizeof s, 0), 0, want);
+    finds(__LINE__, eventlog_step_back(UNICODE, s, sizeof s, sizeof s), sizeof s, want);
 }
 
 static void corrupted_records_are_refused(void)
@@ -344,15 +348,15 @@ static void corrupted_records_are_refused(void)
         r[corrupted[i].at] = corrupted[i].byte;
         uint32_t front = corrupted[i].front, rear = corrupted[i].rear;
         size_t front_field = corrupted[i].front_field, rear_field = corrupted[i].rear_field;
-        step_refuses(line, eventlog_step(r, len, 0), 0, front, front_field);
-        step_refuses(line, eventlog_step_back(r, len, len), len, rear, rear_field);
-        CHECK_AT(line, refused(eventlog_refusal(r, len, 0), front, front_field));
-        CHECK_AT(line, refused(eventlog_string_refusal(r, len, 0, 0), front, front_field));
-        eventlog_part string = eventlog_string(r, len, 0, 0);
+        step_refuses(line, eventlog_step(UNICODE, r, len, 0), 0, front, front_field);
+        step_refuses(line, eventlog_step_back(UNICODE, r, len, len), len, rear, rear_field);
+        CHECK_AT(line, refused(eventlog_refusal(UNICODE, r, len, 0), front, front_field));
+        CHECK_AT(line, refused(eventlog_string_refusal(UNICODE, r, len, 0, 0), front, front_field));
+        eventlog_part string = eventlog_string(UNICODE, r, len, 0, 0);
         CHECK_AT(line, string.at == 0 && string.len == 0);
-        eventlog_walked w = eventlog_walk(r, len);
+        eventlog_walked w = eventlog_walk(UNICODE, r, len);
         CHECK_AT(line, w.count == 0 && w.refusal == front && w.field == front_field && w.at == 0);
-        w = eventlog_walk_back(r, len);
+        w = eventlog_walk_back(UNICODE, r, len);
         CHECK_AT(line, w.count == 0 && w.refusal == rear && w.field == rear_field && w.at == len);
     }
 }
@@ -384,7 +388,7 @@ static void write_three(uint8_t s[THREE])
     eventlog_event e = event_t;
     e.fields.num_strings = 3;
     e.strings = (eventlog_bytes){three, sizeof three};
-    eventlog_written w = write_event(T_NUMBER, e, s + 8, THREE - 8);
+    eventlog_written w = write_event(UNICODE, T_NUMBER, e, s + 8, THREE - 8);
     CHECK(w.refusal == 0 && w.length == 108);
 }
 
@@ -393,13 +397,14 @@ static void strings_are_found(void)
     uint8_t s[THREE];
     write_three(s);
     for (size_t i = 0; i < COUNT(asked); i++) {
-        eventlog_part part = eventlog_string(s, sizeof s, asked[i].at, asked[i].k);
+        eventlog_part part = eventlog_string(UNICODE, s, sizeof s, asked[i].at, asked[i].k);
         CHECK_AT(asked[i].line, same_part(part, asked[i].part));
-        CHECK_AT(asked[i].line, refused(eventlog_string_refusal(s, sizeof s, asked[i].at, asked[i].k), asked[i].refusal, 0));
+        eventlog_refused x = eventlog_string_refusal(UNICODE, s, sizeof s, asked[i].at, asked[i].k);
+        CHECK_AT(asked[i].line, refused(x, asked[i].refusal, 0));
     }
-    eventlog_part part = eventlog_string(NULL, 0, 0, 0);
+    eventlog_part part = eventlog_string(UNICODE, NULL, 0, 0, 0);
     CHECK(part.at == 0 && part.len == 0);
-    CHECK(refused(eventlog_string_refusal(NULL, 0, 0, 0), 1, 0));
+    CHECK(refused(eventlog_string_refusal(UNICODE, NULL, 0, 0, 0), 1, 0));
 }
 
 #define NO_STRING(place) {.refusal = 17, .string = {.at = 0, .len = 0}, .next = (place)}
@@ -452,19 +457,21 @@ static void next_strings_are_found(void)
     write_three(s);
     memcpy(before, s, THREE);
     for (size_t i = 0; i < COUNT(asked_next); i++) {
-        eventlog_next next = eventlog_next_string(s, THREE, asked_next[i].run, asked_next[i].place);
+        eventlog_next next = eventlog_next_string(UNICODE, s, THREE, asked_next[i].run, asked_next[i].place);
         CHECK_AT(asked_next[i].line, same_next(next, asked_next[i].next));
     }
-    CHECK(same_next(eventlog_next_string(NULL, 0, (eventlog_part){.at = 0, .len = 0}, 0), (eventlog_next)NO_STRING(0)));
-    CHECK(same_next(eventlog_next_string(NULL, 0, (eventlog_part){.at = 0, .len = 2}, 0), (eventlog_next)NO_STRING(0)));
+    for (size_t len = 0; len <= 2; len += 2) {
+        eventlog_next next = eventlog_next_string(UNICODE, NULL, 0, (eventlog_part){.at = 0, .len = len}, 0);
+        CHECK(same_next(next, (eventlog_next)NO_STRING(0)));
+    }
 
     /* in turn, the record's strings by number */
-    eventlog_record found = eventlog_step(s, THREE, 8).found;
+    eventlog_record found = eventlog_step(UNICODE, s, THREE, 8).found;
     CHECK(same_part(found.strings, (eventlog_part){.at = 96, .len = 12}));
     size_t place = found.strings.at;
     for (uint32_t k = 0; k < found.fields.num_strings; k++) {
-        eventlog_next next = eventlog_next_string(s, THREE, found.strings, place);
-        CHECK(next.refusal == 0 && same_part(next.string, eventlog_string(s, THREE, 8, k)));
+        eventlog_next next = eventlog_next_string(UNICODE, s, THREE, found.strings, place);
+        CHECK(next.refusal == 0 && same_part(next.string, eventlog_string(UNICODE, s, THREE, 8, k)));
         place = next.next;
     }
     CHECK(place == found.strings.at + found.strings.len);
@@ -504,8 +511,8 @@ static void walks_answer(void)
         {__LINE__, bad_t, END, WALKED(1, 7, 30, T), WALKED(0, 7, 30, END)},
     };
     for (size_t i = 0; i < COUNT(rows); i++) {
-        CHECK_AT(rows[i].line, same_walked(eventlog_walk(rows[i].s, rows[i].len), rows[i].front));
-        CHECK_AT(rows[i].line, same_walked(eventlog_walk_back(rows[i].s, rows[i].len), rows[i].rear));
+        CHECK_AT(rows[i].line, same_walked(eventlog_walk(UNICODE, rows[i].s, rows[i].len), rows[i].front));
+        CHECK_AT(rows[i].line, same_walked(eventlog_walk_back(UNICODE, rows[i].s, rows[i].len), rows[i].rear));
     }
 }
 
@@ -530,7 +537,7 @@ static void writes(int line, uint32_t number, eventlog_event e, size_t out_len, 
 {
     lend(256);
     memcpy(want, record, length);
-    eventlog_written w = write_event(number, e, out, out_len);
+    eventlog_written w = write_event(UNICODE, number, e, out, out_len);
     CHECK_AT(line, w.refusal == 0 && w.length == length);
     CHECK_AT(line, memcmp(out, want, 256) == 0);
 }
@@ -546,7 +553,7 @@ static void write_lays_out(void)
 static void write_refuses(int line, eventlog_event e, size_t out_len, uint32_t refusal)
 {
     lend(ROOM);
-    eventlog_written w = write_event(T_NUMBER, e, out, out_len);
+    eventlog_written w = write_event(UNICODE, T_NUMBER, e, out, out_len);
     CHECK_AT(line, w.refusal == refusal);
     CHECK_AT(line, w.length == 0);
     CHECK_AT(line, memcmp(out, want, ROOM) == 0);
@@ -561,7 +568,7 @@ static void append_refuses(int line, size_t log_len, size_t used, eventlog_event
     fill(log, LOG);
     memcpy(log, batch, END);
     memcpy(before, log, LOG);
-    eventlog_appended a = append_event(log, log_len, used, e);
+    eventlog_appended a = append_event(UNICODE, log, log_len, used, e);
     CHECK_AT(line, a.refusal == refusal && a.field == 0);
     CHECK_AT(line, a.used == used);
     CHECK_AT(line, memcmp(log, before, LOG) == 0);
@@ -608,7 +615,7 @@ static void sizes_are_refused(void)
     REFUSES(2, e = event_s; e.source_name = (eventlog_bytes){ones, 262080});
     write_refuses(__LINE__, event_t, T_LENGTH - 1, 15);
     write_refuses(__LINE__, event_s, S_LENGTH - 1, 15);
-    eventlog_written w = write_event(S_NUMBER, event_s, NULL, 0);
+    eventlog_written w = write_event(UNICODE, S_NUMBER, event_s, NULL, 0);
     CHECK(w.refusal == 15 && w.length == 0);
 }
 
@@ -642,12 +649,12 @@ static void write_refuses_in_order(void)
 static void write_accepts(int line, eventlog_event e, size_t length)
 {
     lend(ROOM);
-    eventlog_written w = write_event(T_NUMBER, e, out, length);
+    eventlog_written w = write_event(UNICODE, T_NUMBER, e, out, length);
     CHECK_AT(line, w.refusal == 0);
     CHECK_AT(line, w.length == length);
     CHECK_AT(line, memcmp(out + length, want + length, ROOM - length) == 0);
-    CHECK_AT(line, refused(eventlog_refusal(out, length, 0), 0, 0));
-    CHECK_AT(line, eventlog_step_back(out, length, length).refusal == 0);
+    CHECK_AT(line, refused(eventlog_refusal(UNICODE, out, length, 0), 0, 0));
+    CHECK_AT(line, eventlog_step_back(UNICODE, out, length, length).refusal == 0);
 }
 
 /* S with a change is accepted and has this Length. */
@@ -686,19 +693,19 @@ static void append_numbers(void)
     memcpy(after, log, LOG);
     memcpy(after, batch + S, S_LENGTH);
     memcpy(after + 8, (const uint8_t[]){1, 0, 0, 0}, 4);
-    eventlog_appended a = append_event(log, LOG, 0, event_s);
+    eventlog_appended a = append_event(UNICODE, log, LOG, 0, event_s);
     CHECK(a.refusal == 0 && a.field == 0 && a.used == T);
     CHECK(memcmp(log, after, LOG) == 0);
 
     memcpy(after + T, batch + T, T_LENGTH);
     memcpy(after + T + 8, (const uint8_t[]){2, 0, 0, 0}, 4);
-    a = append_event(log, LOG, T, event_t);
+    a = append_event(UNICODE, log, LOG, T, event_t);
     CHECK(a.refusal == 0 && a.field == 0 && a.used == END);
     CHECK(memcmp(log, after, LOG) == 0);
     eventlog_record second = record_t(T);
     second.fields.record_number = 2;
-    finds(__LINE__, eventlog_step(log, LOG, T), T, second);
-    finds(__LINE__, eventlog_step_back(log, LOG, END), END, second);
+    finds(__LINE__, eventlog_step(UNICODE, log, LOG, T), T, second);
+    finds(__LINE__, eventlog_step_back(UNICODE, log, LOG, END), END, second);
 }
 
 static void append_numbers_after_the_last(void)
@@ -710,7 +717,7 @@ static void append_numbers_after_the_last(void)
     memcpy(after, log, LOG);
     memcpy(after + T, batch + T, T_LENGTH);
     memcpy(after + T + 8, (const uint8_t[]){0, 0, 0, 0}, 4);
-    eventlog_appended a = append_event(log, END, T, event_t);
+    eventlog_appended a = append_event(UNICODE, log, END, T, event_t);
     CHECK(a.refusal == 0 && a.field == 0 && a.used == END);
     CHECK(memcmp(log, after, LOG) == 0);
 }
@@ -732,9 +739,9 @@ static void append_refuses_in_order(void)
     append_refuses(__LINE__, END, END, event_t, 15);
     append_refuses(__LINE__, END - 1, T, event_t, 15);
     append_refuses(__LINE__, T_LENGTH - 1, 0, event_t, 15);
-    eventlog_appended a = append_event(NULL, 0, 0, event_s);
+    eventlog_appended a = append_event(UNICODE, NULL, 0, 0, event_s);
     CHECK(a.refusal == 15 && a.field == 0 && a.used == 0);
-    a = append_event(NULL, 0, 1, event_s);
+    a = append_event(UNICODE, NULL, 0, 1, event_s);
     CHECK(a.refusal == 1 && a.field == 0 && a.used == 1);
 }
 
@@ -752,9 +759,9 @@ static void append_says_the_field(void)
         memcpy(log, batch, END);
         log[T + rows[i].at] = rows[i].byte;
         memcpy(before, log, LOG);
-        eventlog_appended a = append_event(log, LOG, END, event_s);
+        eventlog_appended a = append_event(UNICODE, log, LOG, END, event_s);
         CHECK(a.refusal == 14 && a.field == rows[i].field && a.used == END);
-        CHECK(a.field == eventlog_step_back(log, LOG, END).field);
+        CHECK(a.field == eventlog_step_back(UNICODE, log, LOG, END).field);
         CHECK(memcmp(log, before, LOG) == 0);
     }
 }
@@ -809,8 +816,8 @@ static void read_copies(void)
             memcpy(want + read, batch + (*c == 'S' ? S : T), length);
             read += length;
         }
-        eventlog_answer r = eventlog_read(reads[i].h, batch, reads[i].log_len, reads[i].flags, reads[i].number,
-                                          reads[i].size, out, reads[i].size);
+        eventlog_answer r = eventlog_read(UNICODE, reads[i].h, batch, reads[i].log_len, reads[i].flags,
+                                          reads[i].number, reads[i].size, out, reads[i].size);
         CHECK_AT(reads[i].line, r.status == 0);
         CHECK_AT(reads[i].line, r.read == read && r.needed == 0);
         CHECK_AT(reads[i].line, r.handle.kind == 1 && r.handle.boundary == reads[i].boundary);
@@ -869,8 +876,8 @@ static void read_refuses(void)
 {
     for (size_t i = 0; i < COUNT(unread); i++) {
         lend(sizeof out);
-        eventlog_answer r = eventlog_read(unread[i].h, batch, unread[i].log_len, unread[i].flags, unread[i].number,
-                                          unread[i].size, out, unread[i].out_len);
+        eventlog_answer r = eventlog_read(UNICODE, unread[i].h, batch, unread[i].log_len, unread[i].flags,
+                                          unread[i].number, unread[i].size, out, unread[i].out_len);
         CHECK_AT(unread[i].line, r.status == unread[i].status);
         CHECK_AT(unread[i].line, r.read == 0 && r.needed == unread[i].needed);
         CHECK_AT(unread[i].line, r.handle.kind == unread[i].h.kind);
@@ -883,27 +890,27 @@ static void read_goes_on(void)
 {
     eventlog_handle h = eventlog_fresh();
     CHECK(h.kind == 0 && h.boundary == 0);
-    eventlog_answer r = eventlog_read(h, batch, END, FORWARDS, 0, 64, out, sizeof out);
+    eventlog_answer r = eventlog_read(UNICODE, h, batch, END, FORWARDS, 0, 64, out, sizeof out);
     CHECK(r.status == 0 && r.read == 64 && r.handle.boundary == T);
-    r = eventlog_read(r.handle, batch, END, FORWARDS, 0, 104, out, sizeof out);
+    r = eventlog_read(UNICODE, r.handle, batch, END, FORWARDS, 0, 104, out, sizeof out);
     CHECK(r.status == 0 && r.read == 104 && r.handle.boundary == END);
-    r = eventlog_read(r.handle, batch, END, FORWARDS, 0, 104, out, sizeof out);
+    r = eventlog_read(UNICODE, r.handle, batch, END, FORWARDS, 0, 104, out, sizeof out);
     CHECK(r.status == 0xC0000011 && r.handle.kind == 1 && r.handle.boundary == END);
 
-    r = eventlog_read(h, NULL, 0, FORWARDS, 0, 0, NULL, 0);
+    r = eventlog_read(UNICODE, h, NULL, 0, FORWARDS, 0, 0, NULL, 0);
     CHECK(r.status == 0xC0000011 && r.read == 0 && r.needed == 0 && r.handle.kind == 0);
 
     /* T ends these 167 bytes; no record ends with the 63 before it. */
-    r = eventlog_read(h, batch + 1, END - 1, BACKWARDS, 0, 168, out, sizeof out);
+    r = eventlog_read(UNICODE, h, batch + 1, END - 1, BACKWARDS, 0, 168, out, sizeof out);
     CHECK(r.status == 0 && r.read == 104 && r.handle.boundary == 63);
-    r = eventlog_read(r.handle, batch + 1, END - 1, BACKWARDS, 0, 168, out, sizeof out);
+    r = eventlog_read(UNICODE, r.handle, batch + 1, END - 1, BACKWARDS, 0, 168, out, sizeof out);
     CHECK(r.status == 0xC000018E && r.read == 0 && r.handle.boundary == 63);
 
     /* Of two records with the number a seek takes the first. */
     uint8_t twice[2 * S_LENGTH];
     memcpy(twice, batch, S_LENGTH);
     memcpy(twice + S_LENGTH, batch, S_LENGTH);
-    r = eventlog_read(h, twice, sizeof twice, SEEK_FORWARDS, S_NUMBER, 64, out, sizeof out);
+    r = eventlog_read(UNICODE, h, twice, sizeof twice, SEEK_FORWARDS, S_NUMBER, 64, out, sizeof out);
     CHECK(r.status == 0 && r.handle.boundary == S_LENGTH);
 }
 
@@ -928,13 +935,15 @@ static uint32_t refusal_of(size_t length, uint8_t strings, size_t first, size_t 
     put(out + length - 4, length);
     out[26] = strings;
     put(out + 36, 60);
-    eventlog_refused x = eventlog_refusal(out, length, 0);
-    CHECK(eventlog_step(out, length, 0).refusal == x.refusal);
-    CHECK(eventlog_step_back(out, length, length).refusal == x.refusal);
-    CHECK(eventlog_walk(out, length).refusal == x.refusal && eventlog_walk_back(out, length).refusal == x.refusal);
+    eventlog_refused x = eventlog_refusal(UNICODE, out, length, 0);
+    CHECK(eventlog_step(UNICODE, out, length, 0).refusal == x.refusal);
+    CHECK(eventlog_step_back(UNICODE, out, length, length).refusal == x.refusal);
+    CHECK(eventlog_walk(UNICODE, out, length).refusal == x.refusal);
+    CHECK(eventlog_walk_back(UNICODE, out, length).refusal == x.refusal);
     /* the name that has no end: the second one, if the first has some zero bytes */
     CHECK(x.field == (x.refusal == 9 ? 56 + (first == 0 && last == 0 ? 0 : first == 0 ? length - 60 : 2) : x.refusal == 11 ? 36 : 0));
-    CHECK(eventlog_step_back(out, length, length).field == x.field && eventlog_walk(out, length).field == x.field);
+    CHECK(eventlog_step_back(UNICODE, out, length, length).field == x.field);
+    CHECK(eventlog_walk(UNICODE, out, length).field == x.field);
     return x.refusal;
 }
 
@@ -969,20 +978,20 @@ static void longest_record_in_a_log(void)
     /* The fixed part, the rest of the names, the SID and Length2 take 56, 8, 12 and 4 bytes, and there is no gap. */
     e.source_name = (eventlog_bytes){ones, LONGEST - 512 - 61440 - 80};
     memcpy(log, batch + S, S_LENGTH);
-    eventlog_appended a = append_event(log, LONG_END - 1, S_LENGTH, e);
+    eventlog_appended a = append_event(UNICODE, log, LONG_END - 1, S_LENGTH, e);
     CHECK(a.refusal == 15 && a.field == 0 && a.used == S_LENGTH);
-    a = append_event(log, LONG_END, S_LENGTH, e);
+    a = append_event(UNICODE, log, LONG_END, S_LENGTH, e);
     CHECK(a.refusal == 0 && a.field == 0 && a.used == LONG_END);
-    a = append_event(log, LONG_LOG, LONG_END, event_t);
+    a = append_event(UNICODE, log, LONG_LOG, LONG_END, event_t);
     CHECK(a.refusal == 0 && a.field == 0 && a.used == LONG_LOG);
     eventlog_walked front = WALKED(3, 0, 0, LONG_LOG), rear = WALKED(3, 0, 0, 0);
-    CHECK(same_walked(eventlog_walk(log, LONG_LOG), front));
-    CHECK(same_walked(eventlog_walk_back(log, LONG_LOG), rear));
-    eventlog_record found = eventlog_step(log, LONG_LOG, S_LENGTH).found;
+    CHECK(same_walked(eventlog_walk(UNICODE, log, LONG_LOG), front));
+    CHECK(same_walked(eventlog_walk_back(UNICODE, log, LONG_LOG), rear));
+    eventlog_record found = eventlog_step(UNICODE, log, LONG_LOG, S_LENGTH).found;
     CHECK(found.length == LONGEST && found.event_data.at == LONG_END - 4 - 61440);
-    CHECK(same_part(eventlog_string(log, LONG_LOG, S_LENGTH, 255),
+    CHECK(same_part(eventlog_string(UNICODE, log, LONG_LOG, S_LENGTH, 255),
                     (eventlog_part){.at = found.event_data.at - 2, .len = 0}));
-    CHECK(same_parts(found, eventlog_step_back(log, LONG_LOG, LONG_END).found));
+    CHECK(same_parts(found, eventlog_step_back(UNICODE, log, LONG_LOG, LONG_END).found));
 
     static const struct {
         eventlog_handle h;
@@ -994,11 +1003,12 @@ static void longest_record_in_a_log(void)
     };
     for (size_t i = 0; i < COUNT(rows); i++) {
         lend(ROOM);
-        eventlog_answer r = eventlog_read(rows[i].h, log, LONG_LOG, rows[i].flags, 0, LONGEST - 1, out, sizeof out);
+        eventlog_answer r = eventlog_read(UNICODE, rows[i].h, log, LONG_LOG, rows[i].flags, 0, LONGEST - 1, out,
+                                          sizeof out);
         CHECK(r.status == 0xC0000023 && r.read == 0 && r.needed == LONGEST);
         CHECK(memcmp(out, want, ROOM) == 0);
         memcpy(want, log + S_LENGTH, LONGEST);
-        r = eventlog_read(rows[i].h, log, LONG_LOG, rows[i].flags, 0, LONGEST, out, sizeof out);
+        r = eventlog_read(UNICODE, rows[i].h, log, LONG_LOG, rows[i].flags, 0, LONGEST, out, sizeof out);
         CHECK(r.status == 0 && r.read == LONGEST && r.needed == 0 && r.handle.boundary == rows[i].boundary);
         CHECK(memcmp(out, want, ROOM) == 0);
     }
@@ -1026,14 +1036,14 @@ static void listing_answers(void)
     for (size_t i = 0; i < COUNT(rows); i++) {
         lend(256);
         memcpy(want, rows[i].text, strlen(rows[i].text));
-        eventlog_written w = eventlog_listing(batch, rows[i].len, out, rows[i].out_len);
+        eventlog_written w = eventlog_listing(UNICODE, batch, rows[i].len, out, rows[i].out_len);
         CHECK_AT(rows[i].line, w.refusal == rows[i].refusal);
         CHECK_AT(rows[i].line, w.length == strlen(rows[i].text));
         CHECK_AT(rows[i].line, memcmp(out, want, 256) == 0);
     }
-    eventlog_written w = eventlog_listing(NULL, 0, out, 10);
+    eventlog_written w = eventlog_listing(UNICODE, NULL, 0, out, 10);
     CHECK(w.refusal == 0 && w.length == 10 && memcmp(out, "records 0\n", 10) == 0);
-    w = eventlog_listing(NULL, 0, NULL, 0);
+    w = eventlog_listing(UNICODE, NULL, 0, NULL, 0);
     CHECK(w.refusal == 15 && w.length == 0);
 }
 
@@ -1049,11 +1059,11 @@ static void events_are_taken_apart(void)
 {
     lend(256);
     memcpy(want, batch + T, T_LENGTH);
-    eventlog_written w = eventlog_write_event(T_NUMBER, &event_t, out, T_LENGTH);
+    eventlog_written w = eventlog_write_event(UNICODE, T_NUMBER, &event_t, out, T_LENGTH);
     CHECK(w.refusal == 0 && w.length == T_LENGTH);
     CHECK(memcmp(out, want, 256) == 0);
     lend(256);
-    w = eventlog_write_event(T_NUMBER, &event_t, out, T_LENGTH - 1);
+    w = eventlog_write_event(UNICODE, T_NUMBER, &event_t, out, T_LENGTH - 1);
     CHECK(w.refusal == 15 && w.length == 0);
     CHECK(memcmp(out, want, 256) == 0);
 
@@ -1061,10 +1071,10 @@ static void events_are_taken_apart(void)
     fill(log, LOG);
     memcpy(log, batch, S_LENGTH);
     memcpy(after, log, LOG);
-    eventlog_appended a = eventlog_append_event(log, END - 1, T, &event_t);
+    eventlog_appended a = eventlog_append_event(UNICODE, log, END - 1, T, &event_t);
     CHECK(a.refusal == 15 && a.field == 0 && a.used == T);
     CHECK(memcmp(log, after, LOG) == 0);
-    a = eventlog_append_event(log, END, T, &event_t);
+    a = eventlog_append_event(UNICODE, log, END, T, &event_t);
     CHECK(a.refusal == 0 && a.field == 0 && a.used == END);
     memcpy(after + T, batch + T, T_LENGTH);
     memcpy(after + T + 8, (const uint8_t[]){S_NUMBER + 1, 0, 0, 0}, 4);
@@ -1102,29 +1112,448 @@ static void exchanges_show(void)
                 uint8_t log[LOG];
                 fill(log, LOG);
                 memcpy(log, batch, S_LENGTH);
-                CHECK(eventlog_write_event(T_NUMBER, &e, log + T, LOG - T).refusal != 0 || !is_t(log));
+                CHECK(eventlog_write_event(UNICODE, T_NUMBER, &e, log + T, LOG - T).refusal != 0 || !is_t(log));
                 fill(log + T, LOG - T);
-                CHECK(eventlog_append_event(log, LOG, T, &e).refusal != 0 || !is_t(log));
+                CHECK(eventlog_append_event(UNICODE, log, LOG, T, &e).refusal != 0 || !is_t(log));
             }
     uint8_t log[LOG];
     memcpy(log, batch, S_LENGTH);
-    CHECK(eventlog_append_event(log, LOG, T, &event_t).refusal == 0 && is_t(log));
+    CHECK(eventlog_append_event(UNICODE, log, LOG, T, &event_t).refusal == 0 && is_t(log));
 }
 
 static void records_are_written_again(void)
 {
     for (size_t at = 0, length = 0; at < END; at += length) {
-        eventlog_record found = eventlog_step(batch, END, at).found;
+        eventlog_record found = eventlog_step(UNICODE, batch, END, at).found;
         eventlog_event e = eventlog_event_of(batch, &found);
         length = found.length;
         lend(256);
         memcpy(want, batch + at, length);
-        CHECK(eventlog_write_event(found.fields.record_number, &e, out, sizeof out).length == length);
+        CHECK(eventlog_write_event(UNICODE, found.fields.record_number, &e, out, sizeof out).length == length);
         CHECK(memcmp(out, want, 256) == 0);
     }
     eventlog_bytes own = eventlog_bytes_of(batch, (eventlog_part){.at = T + 56, .len = 10});
     CHECK(own.bytes == batch + T + 56 && own.len == 10);
     CHECK(eventlog_bytes_of(NULL, (eventlog_part){.at = 0, .len = 0}).len == 0);
+}
+
+/* ---- ANSI ---- */
+
+/* S, which has the same bytes in both editions, and T in ANSI; T with the numbers, the SID and the data of the batch
+ * above. */
+enum { ANSI_T_LENGTH = 92, ANSI_END = T + ANSI_T_LENGTH, ANSI_S_COMPUTER = 57 };
+
+static const uint8_t ansi_batch[ANSI_END] = {
+    [S] = S_LENGTH, [S + 4] = 'L', 'f', 'L', 'e', [S + 8] = S_NUMBER, [S + 60] = S_LENGTH,
+
+    [T] = ANSI_T_LENGTH, [T + 4] = 'L', 'f', 'L', 'e',
+    [T + 8] = 0x11, 0x12, 0x13, 0x14,
+    [T + 12] = 0x21, 0x22, 0x23, 0x24,
+    [T + 16] = 0x31, 0x32, 0x33, 0x34,
+    [T + 20] = 0x41, 0x42, 0x43, 0x44,
+    [T + 24] = 16, 0, 1, 0, 0x51, 0x52, 0x00, 0x80,
+    [T + 36] = 80,                            /* StringOffset */
+    [T + 40] = 12, [T + 44] = 68,             /* UserSidLength, UserSidOffset */
+    [T + 48] = 3, [T + 52] = 83,              /* DataLength, DataOffset */
+    [T + 56] = 'S', 'c', 'a', 'l', 'e', 0,
+    [T + 62] = 'T', '1', 0,
+    [T + 68] = 1, 1, 0, 0, 0, 0, 0, 5, 18, 0, 0, 0,
+    [T + 80] = 'O', 'K', 0,
+    [T + 83] = 0xD1, 0xD2, 0xD3,
+    [T + 88] = ANSI_T_LENGTH,
+};
+
+static const eventlog_event ansi_event_t = {
+    .fields = {FIELDS_OF_T},
+    .source_name = EVENTLOG_NAME("Scale"), .computer_name = EVENTLOG_NAME("T1"), .sid = {ansi_batch + T + 68, 12},
+    .strings = EVENTLOG_STRINGS("OK"), .event_data = {ansi_batch + T + 83, 3},
+};
+
+static eventlog_record ansi_record_s(size_t at)
+{
+    eventlog_record s = record_s(at);
+    s.computer_name.at = at + ANSI_S_COMPUTER;
+    return s;
+}
+
+static eventlog_record ansi_record_t(size_t at)
+{
+    return (eventlog_record){
+        .start = at, .length = ANSI_T_LENGTH, .fields = fields_t,
+        .source_name = {.at = at + 56, .len = 5}, .computer_name = {.at = at + 62, .len = 2},
+        .sid = {.at = at + 68, .len = 12}, .strings = {.at = at + 80, .len = 3},
+        .event_data = {.at = at + 83, .len = 3},
+    };
+}
+
+static void ansi_steps_and_walks(uint32_t ansi)
+{
+    finds(__LINE__, eventlog_step(ansi, ansi_batch, ANSI_END, S), S, ansi_record_s(0));
+    finds(__LINE__, eventlog_step(ansi, ansi_batch, ANSI_END, T), T, ansi_record_t(T));
+    finds(__LINE__, eventlog_step_back(ansi, ansi_batch, ANSI_END, T), T, ansi_record_s(0));
+    finds(__LINE__, eventlog_step_back(ansi, ansi_batch, ANSI_END, ANSI_END), ANSI_END, ansi_record_t(T));
+    CHECK(refused(eventlog_refusal(ansi, ansi_batch, ANSI_END, S), 0, 0));
+    CHECK(refused(eventlog_refusal(ansi, ansi_batch, ANSI_END, T), 0, 0));
+    step_refuses(__LINE__, eventlog_step(ansi, NULL, 0, 0), 0, 1, 0);
+    step_refuses(__LINE__, eventlog_step_back(ansi, NULL, 0, 0), 0, 1, 0);
+
+    const eventlog_walked front = WALKED(2, 0, 0, ANSI_END), rear = WALKED(2, 0, 0, 0), none = WALKED(0, 0, 0, 0);
+    CHECK(same_walked(eventlog_walk(ansi, ansi_batch, ANSI_END), front));
+    CHECK(same_walked(eventlog_walk_back(ansi, ansi_batch, ANSI_END), rear));
+    CHECK(same_walked(eventlog_walk(ansi, NULL, 0), none) && same_walked(eventlog_walk_back(ansi, NULL, 0), none));
+    const eventlog_walked cut = WALKED(1, 3, 0, T);
+    CHECK(same_walked(eventlog_walk(ansi, ansi_batch, ANSI_END - 1), cut));
+}
+
+/* One byte of S or of T is another: refusal and field, the same from both ends but for 5. */
+static const struct {
+    int line;
+    size_t record, at;
+    uint8_t byte;
+    uint32_t front;
+    size_t front_field;
+    uint32_t rear;
+    size_t rear_field;
+} ansi_corrupted[] = {
+    {__LINE__, T, 0, 90, 2, 0, 5, 0},
+    {__LINE__, T, 4, 0, 4, 4, 4, 4},
+    {__LINE__, T, 88, 60, 5, 88, 2, 0},
+    {__LINE__, T, 24, 3, 6, 24, 6, 24},
+    {__LINE__, T, 31, 0x40, 7, 30, 7, 30},
+    {__LINE__, S, 31, 0x80, 7, 30, 7, 30},
+    {__LINE__, T, 27, 1, 8, 26, 8, 26},
+    {__LINE__, T, 44, 64, 10, 44, 10, 44}, /* in Computername's zero byte */
+    {__LINE__, T, 44, 69, 10, 44, 10, 44},
+    {__LINE__, T, 69, 2, 10, 44, 10, 44},
+    {__LINE__, T, 36, 81, 11, 36, 11, 36},
+    {__LINE__, T, 26, 9, 11, 36, 11, 36},
+    {__LINE__, T, 52, 84, 12, 48, 12, 48},
+    {__LINE__, T, 48, 6, 12, 48, 12, 48},
+    {__LINE__, T, 81, 0, 12, 48, 12, 48}, /* a zero byte inside the string: the data would start one byte earlier */
+    {__LINE__, T, 82, 1, 11, 36, 11, 36},  /* none behind it but in the gap */
+};
+
+static void ansi_corrupted_records_are_refused(uint32_t ansi)
+{
+    for (size_t i = 0; i < COUNT(ansi_corrupted); i++) {
+        int line = ansi_corrupted[i].line;
+        size_t len = ansi_corrupted[i].record == S ? S_LENGTH : ANSI_T_LENGTH;
+        uint8_t r[ANSI_T_LENGTH];
+        memcpy(r, ansi_batch + ansi_corrupted[i].record, len);
+        if (ansi_corrupted[i].at == 82)
+            memset(r + 86, 1, 2);
+        r[ansi_corrupted[i].at] = ansi_corrupted[i].byte;
+        uint32_t front = ansi_corrupted[i].front, rear = ansi_corrupted[i].rear;
+        size_t front_field = ansi_corrupted[i].front_field, rear_field = ansi_corrupted[i].rear_field;
+        step_refuses(line, eventlog_step(ansi, r, len, 0), 0, front, front_field);
+        step_refuses(line, eventlog_step_back(ansi, r, len, len), len, rear, rear_field);
+        CHECK_AT(line, refused(eventlog_refusal(ansi, r, len, 0), front, front_field));
+        CHECK_AT(line, refused(eventlog_string_refusal(ansi, r, len, 0, 0), front, front_field));
+        CHECK_AT(line, same_part(eventlog_string(ansi, r, len, 0, 0), (eventlog_part){.at = 0, .len = 0}));
+        const eventlog_walked forth = WALKED(0, front, front_field, 0), back = WALKED(0, rear, rear_field, len);
+        CHECK_AT(line, same_walked(eventlog_walk(ansi, r, len), forth));
+        CHECK_AT(line, same_walked(eventlog_walk_back(ansi, r, len), back));
+    }
+}
+
+/* The strings "A", the empty one and "BC" of a record, and places of their run. */
+static void ansi_strings_are_found(uint32_t ansi)
+{
+    enum { LENGTH = 92, RUN = 80 };
+    uint8_t s[LENGTH];
+    fill(s, LENGTH);
+    eventlog_event e = ansi_event_t;
+    e.fields.num_strings = 3;
+    e.strings = (eventlog_bytes)EVENTLOG_STRINGS("A\0\0BC");
+    e.event_data.len = 0;
+    eventlog_written w = write_event(ansi, T_NUMBER, e, s, LENGTH);
+    CHECK(w.refusal == 0 && w.length == LENGTH);
+
+    static const eventlog_part strings[] = {
+        {.at = RUN, .len = 1}, {.at = RUN + 2, .len = 0}, {.at = RUN + 3, .len = 2},
+    };
+    const eventlog_part run = {.at = RUN, .len = 6};
+    size_t place = RUN;
+    for (uint32_t k = 0; k < COUNT(strings); k++) {
+        CHECK(same_part(eventlog_string(ansi, s, LENGTH, 0, k), strings[k]));
+        CHECK(refused(eventlog_string_refusal(ansi, s, LENGTH, 0, k), 0, 0));
+        eventlog_next next = eventlog_next_string(ansi, s, LENGTH, run, place);
+        CHECK(next.refusal == 0 && same_part(next.string, strings[k]) && next.next > place);
+        place = next.next;
+    }
+    CHECK(place == RUN + 6);
+    CHECK(refused(eventlog_string_refusal(ansi, s, LENGTH, 0, 3), 17, 0));
+    CHECK(same_part(eventlog_string(ansi, s, LENGTH, 0, 3), (eventlog_part){.at = 0, .len = 0}));
+
+    static const struct {
+        int line;
+        eventlog_part run;
+        size_t place;
+        eventlog_next next;
+    } rows[] = {
+        {__LINE__, {.at = RUN, .len = 6}, RUN + 1, STRING(RUN + 1, 0, RUN + 2)},
+        {__LINE__, {.at = RUN, .len = 6}, RUN + 4, STRING(RUN + 4, 1, RUN + 6)},
+        {__LINE__, {.at = RUN, .len = 6}, RUN + 5, STRING(RUN + 5, 0, RUN + 6)},
+        {__LINE__, {.at = RUN, .len = 6}, RUN + 6, NO_STRING(RUN + 6)},
+        {__LINE__, {.at = RUN, .len = 6}, RUN - 1, NO_STRING(RUN - 1)},
+        {__LINE__, {.at = RUN, .len = 6}, SIZE_MAX, NO_STRING(SIZE_MAX)},
+        {__LINE__, {.at = RUN, .len = 5}, RUN + 3, NO_STRING(RUN + 3)},
+        {__LINE__, {.at = RUN, .len = 2}, RUN, STRING(RUN, 1, RUN + 2)},
+        {__LINE__, {.at = RUN, .len = 1}, RUN, NO_STRING(RUN)},
+        {__LINE__, {.at = RUN, .len = 12}, RUN, STRING(RUN, 1, RUN + 2)},
+        {__LINE__, {.at = RUN, .len = 13}, RUN, NO_STRING(RUN)},
+        {__LINE__, {.at = RUN, .len = SIZE_MAX}, RUN, NO_STRING(RUN)},
+    };
+    for (size_t i = 0; i < COUNT(rows); i++) {
+        eventlog_next next = eventlog_next_string(ansi, s, LENGTH, rows[i].run, rows[i].place);
+        CHECK_AT(rows[i].line, same_next(next, rows[i].next));
+    }
+}
+
+static void ansi_writes(int line, uint32_t ansi, uint32_t number, eventlog_event e, const uint8_t *record,
+                        size_t length)
+{
+    lend(256);
+    memcpy(want, record, length);
+    eventlog_written w = write_event(ansi, number, e, out, length);
+    CHECK_AT(line, w.refusal == 0 && w.length == length);
+    CHECK_AT(line, memcmp(out, want, 256) == 0);
+    lend(256);
+    w = write_event(ansi, number, e, out, length - 1);
+    CHECK_AT(line, w.refusal == 15 && w.length == 0);
+    CHECK_AT(line, memcmp(out, want, 256) == 0);
+}
+
+/* T with a change is neither written nor, behind S and T, appended. */
+#define ANSI_REFUSES(number, ...)                                                       \
+    do {                                                                                \
+        eventlog_event e = ansi_event_t;                                                \
+        __VA_ARGS__;                                                                    \
+        lend(ROOM);                                                                     \
+        eventlog_written w = write_event(ansi, T_NUMBER, e, out, ROOM);                 \
+        CHECK(w.refusal == (number) && w.length == 0);                                  \
+        CHECK(memcmp(out, want, ROOM) == 0);                                            \
+        memcpy(out, ansi_batch, ANSI_END);                                              \
+        memcpy(want, out, ROOM);                                                        \
+        eventlog_appended a = append_event(ansi, out, ROOM, ANSI_END, e);               \
+        CHECK(a.refusal == (number) && a.field == 0 && a.used == ANSI_END);             \
+        CHECK(memcmp(out, want, ROOM) == 0);                                            \
+    } while (0)
+
+/* S with a change is written with this Length and read again. */
+#define ANSI_ACCEPTS(size, ...)                                                         \
+    do {                                                                                \
+        eventlog_event e = event_s;                                                     \
+        __VA_ARGS__;                                                                    \
+        lend(ROOM);                                                                     \
+        eventlog_written w = write_event(ansi, S_NUMBER, e, out, size);                 \
+        CHECK(w.refusal == 0 && w.length == (size));                                    \
+        CHECK(memcmp(out + (size), want + (size), ROOM - (size)) == 0);                 \
+        eventlog_stepped x = eventlog_step(ansi, out, size, 0);                         \
+        CHECK(x.refusal == 0 && x.found.source_name.len == e.source_name.len);          \
+        CHECK(x.found.computer_name.len == e.computer_name.len);                        \
+        CHECK(x.found.strings.len == e.strings.len);                                    \
+        CHECK(same_parts(eventlog_step_back(ansi, out, size, size).found, x.found));    \
+    } while (0)
+
+static void ansi_events_are_written(uint32_t ansi)
+{
+    ansi_writes(__LINE__, ansi, S_NUMBER, event_s, ansi_batch + S, S_LENGTH);
+    ansi_writes(__LINE__, ansi, T_NUMBER, ansi_event_t, ansi_batch + T, ANSI_T_LENGTH);
+    ANSI_REFUSES(6, e.fields.event_type = 3);
+    ANSI_REFUSES(7, e.fields.reserved_flags = 0x4000);
+    ANSI_REFUSES(8, e.fields.num_strings = 257; e.strings = (eventlog_bytes){zeros, 257});
+    ANSI_REFUSES(9, e.source_name.len = 6);
+    ANSI_REFUSES(9, e.source_name = (eventlog_bytes){zeros, 1});
+    ANSI_REFUSES(9, e.computer_name = (eventlog_bytes){(const uint8_t *)"T\0001", 3});
+    ANSI_REFUSES(9, e.source_name = event_t.source_name);
+    ANSI_REFUSES(10, e.sid.len = 11);
+    ANSI_REFUSES(11, e.strings = (eventlog_bytes){NULL, 0});
+    ANSI_REFUSES(11, e.strings.len = 2);
+    ANSI_REFUSES(11, e.strings = (eventlog_bytes){zeros, 2});
+    ANSI_REFUSES(11, e.fields.num_strings = 2);
+    ANSI_REFUSES(12, e.event_data = (eventlog_bytes){zeros, 61441});
+    ANSI_REFUSES(2, e = event_s; e.source_name = (eventlog_bytes){ones, 262079});
+    ANSI_REFUSES(2, e = event_s; e.computer_name = (eventlog_bytes){ones, 262079});
+    /* an odd number of bytes is right */
+    ANSI_ACCEPTS(64, e.source_name = (eventlog_bytes){ones, 1});
+    ANSI_ACCEPTS(64, e.source_name = (eventlog_bytes){ones, 1}; e.computer_name = (eventlog_bytes){ones, 1});
+    ANSI_ACCEPTS(68, e.source_name = (eventlog_bytes){ones, 3});
+    ANSI_ACCEPTS(68, e.computer_name = (eventlog_bytes){ones, 5});
+    ANSI_ACCEPTS(320, e.fields.num_strings = 256; e.strings = (eventlog_bytes){zeros, 256});
+    ANSI_ACCEPTS(262140, e.source_name = (eventlog_bytes){ones, 262077});
+    ANSI_ACCEPTS(262140, e.source_name = (eventlog_bytes){ones, 262078});
+    ANSI_ACCEPTS(262140, e.computer_name = (eventlog_bytes){ones, 262078});
+}
+
+static void ansi_events_are_appended(uint32_t ansi)
+{
+    uint8_t log[LOG], after[LOG];
+    fill(log, LOG);
+    memcpy(log, ansi_batch + S, S_LENGTH);
+    memset(log + 8, 255, 4);
+    memcpy(after, log, LOG);
+    memcpy(after + T, ansi_batch + T, ANSI_T_LENGTH);
+    memset(after + T + 8, 0, 4);
+    eventlog_appended a = append_event(ansi, log, ANSI_END - 1, T, ansi_event_t);
+    CHECK(a.refusal == 15 && a.field == 0 && a.used == T);
+    a = append_event(ansi, log, LOG, T, ansi_event_t);
+    CHECK(a.refusal == 0 && a.field == 0 && a.used == ANSI_END);
+    CHECK(memcmp(log, after, LOG) == 0);
+    a = append_event(ansi, log, LOG, ANSI_END + 1, ansi_event_t);
+    CHECK(a.refusal == 14 && a.used == ANSI_END + 1);
+    a = append_event(ansi, log, LOG, LOG + 1, ansi_event_t);
+    CHECK(a.refusal == 1 && a.used == LOG + 1);
+    log[T + 36]++;
+    a = append_event(ansi, log, LOG, ANSI_END, event_s);
+    CHECK(a.refusal == 14 && a.field == 36 && a.used == ANSI_END);
+    a = append_event(ansi, log, LOG, 0, event_s);
+    CHECK(a.refusal == 0 && a.used == S_LENGTH && log[8] == 1);
+}
+
+/* Reads of S and T: what is copied, S or T, and the new boundary; or the status and the bytes needed. */
+static const struct {
+    int line;
+    eventlog_handle h;
+    uint32_t flags, number;
+    size_t size;
+    const char *records;
+    size_t boundary;
+    uint32_t status;
+    size_t needed;
+} ansi_reads[] = {
+    {__LINE__, FRESH, FORWARDS, 0, 64, "S", T, 0, 0},
+    {__LINE__, FRESH, FORWARDS, 0, 156, "ST", ANSI_END, 0, 0},
+    {__LINE__, FRESH, FORWARDS, 0, 524287, "ST", ANSI_END, 0, 0},
+    {__LINE__, FRESH, BACKWARDS, 0, 156, "TS", 0, 0, 0},
+    {__LINE__, FRESH, BACKWARDS, 0, 155, "T", T, 0, 0},
+    {__LINE__, BOUNDARY(T), FORWARDS, 0, 92, "T", ANSI_END, 0, 0},
+    {__LINE__, BOUNDARY(T), BACKWARDS, 0, 92, "S", 0, 0, 0},
+    {__LINE__, FRESH, SEEK_FORWARDS, T_NUMBER, 156, "T", ANSI_END, 0, 0},
+    {__LINE__, FRESH, SEEK_BACKWARDS, T_NUMBER, 156, "TS", 0, 0, 0},
+    {__LINE__, FRESH, 7, 0, 156, "", 0, 0xC000000D, 0},
+    {__LINE__, FRESH, FORWARDS, 0, 524288, "", 0, 0xC000000D, 0},
+    {__LINE__, BOUNDARY(ANSI_END + 1), FORWARDS, 0, 156, "", 0, 0xC0000008, 0},
+    {__LINE__, FRESH, SEEK_FORWARDS, 9, 156, "", 0, 0xC000000D, 0},
+    {__LINE__, BOUNDARY(ANSI_END), FORWARDS, 0, 156, "", 0, 0xC0000011, 0},
+    {__LINE__, BOUNDARY(0), BACKWARDS, 0, 156, "", 0, 0xC0000011, 0},
+    {__LINE__, BOUNDARY(1), FORWARDS, 0, 156, "", 0, 0xC000018E, 0},
+    {__LINE__, BOUNDARY(T), FORWARDS, 0, 91, "", 0, 0xC0000023, 92},
+    {__LINE__, FRESH, BACKWARDS, 0, 91, "", 0, 0xC0000023, 92},
+};
+
+static void ansi_log_is_served(uint32_t ansi)
+{
+    for (size_t i = 0; i < COUNT(ansi_reads); i++) {
+        int line = ansi_reads[i].line;
+        lend(sizeof out);
+        size_t read = 0;
+        for (const char *c = ansi_reads[i].records; *c != 0; c++) {
+            size_t length = *c == 'S' ? S_LENGTH : ANSI_T_LENGTH;
+            memcpy(want + read, ansi_batch + (*c == 'S' ? S : T), length);
+            read += length;
+        }
+        eventlog_answer r = eventlog_read(ansi, ansi_reads[i].h, ansi_batch, ANSI_END, ansi_reads[i].flags,
+                                          ansi_reads[i].number, ansi_reads[i].size, out, ansi_reads[i].size);
+        CHECK_AT(line, r.status == ansi_reads[i].status && r.read == read && r.needed == ansi_reads[i].needed);
+        if (r.status == 0)
+            CHECK_AT(line, r.handle.kind == 1 && r.handle.boundary == ansi_reads[i].boundary);
+        else
+            CHECK_AT(line, r.handle.kind == ansi_reads[i].h.kind && r.handle.boundary == ansi_reads[i].h.boundary);
+        CHECK_AT(line, memcmp(out, want, sizeof out) == 0);
+    }
+}
+
+static void ansi_batch_is_listed(uint32_t ansi)
+{
+    static const char text[] = "records 2\n0 64 7\n64 92 336794129\n";
+    enum { TEXT = sizeof text - 1 };
+    lend(256);
+    eventlog_written w = eventlog_listing(ansi, ansi_batch, ANSI_END, out, TEXT - 1);
+    CHECK(w.refusal == 15 && w.length == 0 && memcmp(out, want, 256) == 0);
+    memcpy(want, text, TEXT);
+    w = eventlog_listing(ansi, ansi_batch, ANSI_END, out, 256);
+    CHECK(w.refusal == 0 && w.length == TEXT && memcmp(out, want, 256) == 0);
+}
+
+static void ansi_events_are_taken_apart(uint32_t ansi)
+{
+    lend(256);
+    memcpy(want, ansi_batch + T, ANSI_T_LENGTH);
+    eventlog_written w = eventlog_write_event(ansi, T_NUMBER, &ansi_event_t, out, 256);
+    CHECK(w.refusal == 0 && w.length == ANSI_T_LENGTH && memcmp(out, want, 256) == 0);
+    uint8_t log[LOG];
+    memcpy(log, ansi_batch, S_LENGTH);
+    eventlog_appended a = eventlog_append_event(ansi, log, LOG, T, &ansi_event_t);
+    CHECK(a.refusal == 0 && a.field == 0 && a.used == ANSI_END);
+    memcpy(log + T + 8, ansi_batch + T + 8, 4);
+    CHECK(memcmp(log, ansi_batch, ANSI_END) == 0);
+    static const size_t starts[] = {S, T};
+    for (size_t i = 0; i < COUNT(starts); i++) {
+        eventlog_record found = eventlog_step(ansi, ansi_batch, ANSI_END, starts[i]).found;
+        eventlog_event e = eventlog_event_of(ansi_batch, &found);
+        w = eventlog_write_event(ansi, found.fields.record_number, &e, out, sizeof out);
+        CHECK(found.length != 0 && w.refusal == 0 && w.length == found.length);
+        CHECK(memcmp(out, ansi_batch + starts[i], found.length) == 0);
+    }
+}
+
+/* ---- one edition's records in the other ---- */
+
+/* The log S, T of the one edition, given to the calls as one of the other: S is good, T is refused with 12. */
+static void other_edition_is_refused(uint32_t edition, const uint8_t *log, size_t end, eventlog_record s)
+{
+    finds(__LINE__, eventlog_step(edition, log, end, S), S, s);
+    finds(__LINE__, eventlog_step_back(edition, log, end, T), T, s);
+    step_refuses(__LINE__, eventlog_step(edition, log, end, T), T, 12, 48);
+    step_refuses(__LINE__, eventlog_step_back(edition, log, end, end), end, 12, 48);
+    CHECK(refused(eventlog_refusal(edition, log, end, T), 12, 48));
+    CHECK(refused(eventlog_string_refusal(edition, log, end, T, 0), 12, 48));
+    CHECK(same_part(eventlog_string(edition, log, end, T, 0), (eventlog_part){.at = 0, .len = 0}));
+    const eventlog_walked front = WALKED(1, 12, 48, T), rear = WALKED(0, 12, 48, end);
+    CHECK(same_walked(eventlog_walk(edition, log, end), front));
+    CHECK(same_walked(eventlog_walk_back(edition, log, end), rear));
+
+    static uint8_t used[512];
+    memcpy(used, log, end);
+    eventlog_appended a = append_event(edition, used, sizeof used, end, event_s);
+    CHECK(a.refusal == 14 && a.field == 48 && a.used == end && memcmp(used, log, end) == 0);
+
+    const eventlog_handle at_t = BOUNDARY(T);
+    eventlog_answer r = eventlog_read(edition, at_t, log, end, FORWARDS, 0, 200, out, sizeof out);
+    CHECK(r.status == 0xC000018E && r.read == 0);
+    r = eventlog_read(edition, eventlog_fresh(), log, end, BACKWARDS, 0, 200, out, sizeof out);
+    CHECK(r.status == 0xC000018E && r.read == 0);
+    r = eventlog_read(edition, eventlog_fresh(), log, end, SEEK_FORWARDS, T_NUMBER, 200, out, sizeof out);
+    CHECK(r.status == 0xC000018E && r.read == 0);
+    r = eventlog_read(edition, eventlog_fresh(), log, end, FORWARDS, 0, 200, out, sizeof out);
+    CHECK(r.status == 0 && r.read == S_LENGTH);
+
+    static const char text[] = "refused 12 at 64 field 48\n";
+    eventlog_written w = eventlog_listing(edition, log, end, out, sizeof out);
+    CHECK(w.refusal == 0 && w.length == sizeof text - 1 && memcmp(out, text, sizeof text - 1) == 0);
+}
+
+/* Every number but 0 is ANSI. */
+static void every_other_number_is_ansi(void)
+{
+    static const uint32_t numbers[] = {EVENTLOG_ANSI, 2, 0x100, 0x10000, 0x80000000, UINT32_MAX};
+    for (size_t i = 0; i < COUNT(numbers); i++) {
+        uint32_t ansi = numbers[i];
+        ansi_steps_and_walks(ansi);
+        ansi_corrupted_records_are_refused(ansi);
+        ansi_strings_are_found(ansi);
+        ansi_events_are_written(ansi);
+        ansi_events_are_appended(ansi);
+        ansi_log_is_served(ansi);
+        ansi_batch_is_listed(ansi);
+        ansi_events_are_taken_apart(ansi);
+        other_edition_is_refused(ansi, batch, END, ansi_record_s(0));
+    }
+    other_edition_is_refused(UNICODE, ansi_batch, ANSI_END, record_s(0));
+    eventlog_event e = event_s;
+    e.source_name = ansi_event_t.source_name;
+    CHECK(write_event(UNICODE, S_NUMBER, e, out, sizeof out).refusal == 9);
 }
 
 int main(void)
@@ -1155,6 +1584,7 @@ int main(void)
     events_are_taken_apart();
     exchanges_show();
     records_are_written_again();
+    every_other_number_is_ansi();
     puts(failed ? "eventlog.c: failed" : "eventlog.c: passed");
     return failed;
 }

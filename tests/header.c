@@ -50,6 +50,7 @@ static void numbers(void)
     CHECK(EVENTLOG_SEQUENTIAL == 1 && EVENTLOG_SEEK == 2 && EVENTLOG_FORWARDS == 4 && EVENTLOG_BACKWARDS == 8);
     CHECK(EVENTLOG_SUCCESS == 0 && EVENTLOG_ERROR_TYPE == 1 && EVENTLOG_WARNING_TYPE == 2);
     CHECK(EVENTLOG_INFORMATION_TYPE == 4 && EVENTLOG_AUDIT_SUCCESS == 8 && EVENTLOG_AUDIT_FAILURE == 16);
+    CHECK(EVENTLOG_UNICODE == 0 && EVENTLOG_ANSI == 1);
     CHECK(EVENTLOG_FRESH == 0 && EVENTLOG_BOUNDARY == 1 && eventlog_fresh().kind == EVENTLOG_FRESH);
 }
 
@@ -88,7 +89,7 @@ static uint32_t refusal_of(uint32_t strings, size_t sid, size_t data)
     event.event_data.len = data;
     zeros[0] = sid > 0;
     zeros[1] = (uint8_t)(sid > 8 ? (sid - 8) / 4 : 0);
-    uint32_t refusal = eventlog_write_event(1, &event, out, sizeof out).refusal;
+    uint32_t refusal = eventlog_write_event(EVENTLOG_UNICODE, 1, &event, out, sizeof out).refusal;
     memset(zeros, 0, 2);
     return refusal;
 }
@@ -107,39 +108,59 @@ static void limits(void)
     CHECK(refusal_of(0, 0, EVENTLOG_MAX_DATA + 1) == EVENTLOG_REFUSED_DATA);
 
     memset(&event, 0, sizeof event);
-    w = eventlog_write_event(1, &event, out, EVENTLOG_MIN_LENGTH);
+    w = eventlog_write_event(EVENTLOG_UNICODE, 1, &event, out, EVENTLOG_MIN_LENGTH);
     CHECK(w.refusal == EVENTLOG_NOT_REFUSED && w.length == EVENTLOG_MIN_LENGTH);
     CHECK(out[4] == (uint8_t)EVENTLOG_SIGNATURE && out[7] == EVENTLOG_SIGNATURE >> 24);
     event.fields.reserved_flags = EVENTLOG_FLAGS_XML;
-    CHECK(eventlog_write_event(1, &event, out, sizeof out).refusal == EVENTLOG_REFUSED_FLAGS);
+    CHECK(eventlog_write_event(EVENTLOG_UNICODE, 1, &event, out, sizeof out).refusal == EVENTLOG_REFUSED_FLAGS);
     event.fields.num_strings = 1;
     event.strings.bytes = zeros;
     event.strings.len = 2;
-    CHECK(eventlog_write_event(1, &event, out, sizeof out).refusal == EVENTLOG_NOT_REFUSED);
+    CHECK(eventlog_write_event(EVENTLOG_UNICODE, 1, &event, out, sizeof out).refusal == EVENTLOG_NOT_REFUSED);
     memset(&event, 0, sizeof event);
     memset(zeros, 1, sizeof zeros);
     event.source_name.bytes = zeros;
     event.source_name.len = EVENTLOG_MAX_LENGTH - EVENTLOG_MIN_LENGTH;
-    CHECK(eventlog_write_event(1, &event, out, sizeof out).length == EVENTLOG_MAX_LENGTH);
+    CHECK(eventlog_write_event(EVENTLOG_UNICODE, 1, &event, out, sizeof out).length == EVENTLOG_MAX_LENGTH);
     event.source_name.len += 4;
-    CHECK(eventlog_write_event(1, &event, out, sizeof out).refusal == EVENTLOG_REFUSED_LENGTH);
+    CHECK(eventlog_write_event(EVENTLOG_UNICODE, 1, &event, out, sizeof out).refusal == EVENTLOG_REFUSED_LENGTH);
     memset(zeros, 0, sizeof zeros);
 
-    r = eventlog_read(eventlog_fresh(), NULL, 0, EVENTLOG_SEQUENTIAL | EVENTLOG_FORWARDS, 0, EVENTLOG_MAX_READ, out,
-                      sizeof out);
+    r = eventlog_read(EVENTLOG_UNICODE, eventlog_fresh(), NULL, 0, EVENTLOG_SEQUENTIAL | EVENTLOG_FORWARDS, 0,
+                      EVENTLOG_MAX_READ, out, sizeof out);
     CHECK(r.status == EVENTLOG_STATUS_END_OF_FILE);
-    r = eventlog_read(eventlog_fresh(), NULL, 0, EVENTLOG_SEQUENTIAL | EVENTLOG_FORWARDS, 0, EVENTLOG_MAX_READ + 1, out,
-                      sizeof out);
+    r = eventlog_read(EVENTLOG_UNICODE, eventlog_fresh(), NULL, 0, EVENTLOG_SEQUENTIAL | EVENTLOG_FORWARDS, 0,
+                      EVENTLOG_MAX_READ + 1, out, sizeof out);
     CHECK(r.status == EVENTLOG_STATUS_INVALID_PARAMETER);
-    w = eventlog_listing(NULL, 0, out, EVENTLOG_LISTING_ROOM);
+    w = eventlog_listing(EVENTLOG_UNICODE, NULL, 0, out, EVENTLOG_LISTING_ROOM);
     CHECK(w.refusal == EVENTLOG_NOT_REFUSED);
-    w = eventlog_listing(NULL, 0, out, 9);
+    w = eventlog_listing(EVENTLOG_UNICODE, NULL, 0, out, 9);
     CHECK(w.refusal == EVENTLOG_REFUSED_OUTPUT);
 }
 
-/* Names and strings from literals, where the language has such literals. */
+/* An event of a name of three bytes is one of ANSI, and its record shows the name in that edition. */
+static void editions(void)
+{
+    eventlog_event event;
+    eventlog_written w;
+    eventlog_stepped x;
+    memset(&event, 0, sizeof event);
+    event.source_name.bytes = (const uint8_t *)"abc";
+    event.source_name.len = 3;
+    CHECK(eventlog_write_event(EVENTLOG_UNICODE, 1, &event, out, sizeof out).refusal == EVENTLOG_REFUSED_NAME);
+    w = eventlog_write_event(EVENTLOG_ANSI, 1, &event, out, sizeof out);
+    CHECK(w.refusal == EVENTLOG_NOT_REFUSED && w.length == EVENTLOG_MIN_LENGTH + 4);
+    x = eventlog_step(EVENTLOG_ANSI, out, w.length, 0);
+    CHECK(x.refusal == EVENTLOG_NOT_REFUSED && x.found.source_name.len == 3 && x.found.computer_name.at == 60);
+}
+
+/* Names and strings from literals, of UTF-16 where the language has such literals. */
 static void literals(void)
 {
+    eventlog_bytes ansi = EVENTLOG_NAME("A\x80"), run = EVENTLOG_STRINGS("A\0\0B"), empty = EVENTLOG_NAME("");
+    CHECK(ansi.len == 2 && memcmp(ansi.bytes, "A\x80", 2) == 0);
+    CHECK(run.len == 5 && memcmp(run.bytes, "A\0\0B\0", 5) == 0);
+    CHECK(empty.len == 0);
 #if (defined __cplusplus && __cplusplus >= 201103L) || (defined __STDC_VERSION__ && __STDC_VERSION__ >= 201112L)
     eventlog_bytes name = EVENTLOG_NAME(u"A\u20AC"), strings = EVENTLOG_STRINGS(u"A\0\0B"), none = EVENTLOG_NAME(u"");
     CHECK(name.len == 4 && memcmp(name.bytes, "A\0\xAC\x20", 4) == 0);
@@ -153,6 +174,7 @@ int main(void)
     numbers();
     messages();
     limits();
+    editions();
     literals();
     if (failed)
         puts("header.c: failed");

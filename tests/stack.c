@@ -39,33 +39,45 @@ static uint8_t batch[5 * EVENTLOG_MAX_LENGTH], out[EVENTLOG_MAX_READ], name[2000
 static size_t used;
 
 /* A record with every part, a large number and long places: each way through the code is gone. */
-static const eventlog_event event = {
-    .fields = {.event_type = EVENTLOG_AUDIT_FAILURE, .num_strings = 2, .reserved_flags = EVENTLOG_FLAGS_XML},
-    .source_name = {name, sizeof name}, .computer_name = EVENTLOG_NAME(u"T1"),
-    .sid = {(const uint8_t *)"\1\1\0\0\0\0\0\5\22\0\0", 12}, .strings = EVENTLOG_STRINGS(u"OK\0fine"),
-    .event_data = {batch, 30000},
+#define EVENT(computer, run)                                                                                      \
+    {                                                                                                             \
+        .fields = {.event_type = EVENTLOG_AUDIT_FAILURE, .num_strings = 2, .reserved_flags = EVENTLOG_FLAGS_XML}, \
+        .source_name = {name, sizeof name}, .computer_name = EVENTLOG_NAME(computer),                             \
+        .sid = {(const uint8_t *)"\1\1\0\0\0\0\0\5\22\0\0", 12}, .strings = EVENTLOG_STRINGS(run),                 \
+        .event_data = {name, 30000},                                                                              \
+    }
+
+static const eventlog_event events[] = {
+    [EVENTLOG_UNICODE] = EVENT(u"T1", u"OK\0fine"),
+    [EVENTLOG_ANSI] = EVENT("T1", "OK\0fine"),
 };
+
+/* The edition that is measured. */
+static uint32_t edition;
 
 /* Answers are kept, so that no call is left out. */
 static volatile size_t kept;
 
 static void nothing(void) { kept = 0; }
 static void fresh(void) { kept = eventlog_fresh().boundary; }
-static void step(void) { kept = eventlog_step(batch, used, 0).found.length; }
-static void step_back(void) { kept = eventlog_step_back(batch, used, used).found.length; }
-static void refusal(void) { kept = eventlog_refusal(batch, used, 0).refusal; }
-static void string(void) { kept = eventlog_string(batch, used, 0, 1).at; }
-static void string_refusal(void) { kept = eventlog_string_refusal(batch, used, 0, 1).refusal; }
+static void step(void) { kept = eventlog_step(edition, batch, used, 0).found.length; }
+static void step_back(void) { kept = eventlog_step_back(edition, batch, used, used).found.length; }
+static void refusal(void) { kept = eventlog_refusal(edition, batch, used, 0).refusal; }
+static void string(void) { kept = eventlog_string(edition, batch, used, 0, 1).at; }
+static void string_refusal(void) { kept = eventlog_string_refusal(edition, batch, used, 0, 1).refusal; }
 static void next_string(void)
 {
-    eventlog_part run = eventlog_step(batch, used, 0).found.strings;
-    kept = eventlog_next_string(batch, used, run, run.at).next;
+    eventlog_part run = eventlog_step(edition, batch, used, 0).found.strings;
+    kept = eventlog_next_string(edition, batch, used, run, run.at).next;
 }
-static void walk(void) { kept = eventlog_walk(batch, used).count; }
-static void walk_back(void) { kept = eventlog_walk_back(batch, used).count; }
-static void write_event(void) { kept = eventlog_write_event(UINT32_MAX, &event, out, sizeof out).length; }
-static void append(void) { kept = eventlog_append_event(batch, sizeof batch, used, &event).used; }
-static void listing(void) { kept = eventlog_listing(batch, used, out, sizeof out).length; }
+static void walk(void) { kept = eventlog_walk(edition, batch, used).count; }
+static void walk_back(void) { kept = eventlog_walk_back(edition, batch, used).count; }
+static void write_event(void)
+{
+    kept = eventlog_write_event(edition, UINT32_MAX, &events[edition], out, sizeof out).length;
+}
+static void append(void) { kept = eventlog_append_event(edition, batch, sizeof batch, used, &events[edition]).used; }
+static void listing(void) { kept = eventlog_listing(edition, batch, used, out, sizeof out).length; }
 static void card_blocks(void) { kept = eventlog_card_blocks(used); }
 static void card_write(void) { kept = eventlog_card_write(name, sizeof name, out, sizeof out).length; }
 static void card_read(void) { kept = eventlog_card_read(out, 400 * EVENTLOG_CARD_BLOCK, batch + used, sizeof batch - used).length; }
@@ -75,7 +87,7 @@ static void from_utf16(void) { kept = eventlog_windows_1252_from_utf16(out, 2000
 
 static void read_with(uint32_t flags)
 {
-    kept = eventlog_read(eventlog_fresh(), batch, used, flags, 0, sizeof out, out, sizeof out).read;
+    kept = eventlog_read(edition, eventlog_fresh(), batch, used, flags, 0, sizeof out, out, sizeof out).read;
 }
 
 static void forwards(void) { read_with(EVENTLOG_SEQUENTIAL | EVENTLOG_FORWARDS); }
@@ -96,25 +108,27 @@ int main(void)
         {"from_utf16", from_utf16},
     };
     memset(name, 1, sizeof name);
-    /* Records numbered from 4,294,967,294 on, so that a listing has long numbers; a seek finds the third, 0. */
-    used = eventlog_write_event(UINT32_MAX - 1, &event, batch, sizeof batch).length;
-    for (int i = 0; i < 3; i++)
-        used = eventlog_append_event(batch, sizeof batch, used, &event).used;
     size_t most = 0, base = used_by(nothing);
-    for (size_t i = 0; i < sizeof calls / sizeof *calls; i++) {
-        kept = 0;
-        size_t taken = used_by(calls[i].call) - base;
-        if (kept == 0 && calls[i].call != fresh && calls[i].call != refusal && calls[i].call != string_refusal
-            && calls[i].call != card_judge) {
-            printf("stack.c: %s answers nothing\n", calls[i].name);
-            return 1;
+    for (edition = EVENTLOG_UNICODE; edition <= EVENTLOG_ANSI; edition++) {
+        /* Records numbered from 4,294,967,294 on, so that a listing has long numbers; a seek finds the third, 0. */
+        used = eventlog_write_event(edition, UINT32_MAX - 1, &events[edition], batch, sizeof batch).length;
+        for (int i = 0; i < 3; i++)
+            used = eventlog_append_event(edition, batch, sizeof batch, used, &events[edition]).used;
+        for (size_t i = 0; i < sizeof calls / sizeof *calls; i++) {
+            kept = 0;
+            size_t taken = used_by(calls[i].call) - base;
+            if (kept == 0 && calls[i].call != fresh && calls[i].call != refusal && calls[i].call != string_refusal
+                && calls[i].call != card_judge) {
+                printf("stack.c: %s answers nothing, edition %u\n", calls[i].name, edition);
+                return 1;
+            }
+            if (taken > EVENTLOG_MAX_STACK / 2) {
+                printf("stack.c: %s takes %zu bytes of stack, edition %u\n", calls[i].name, taken, edition);
+                return 1;
+            }
+            if (taken > most)
+                most = taken;
         }
-        if (taken > EVENTLOG_MAX_STACK / 2) {
-            printf("stack.c: %s takes %zu bytes of stack\n", calls[i].name, taken);
-            return 1;
-        }
-        if (taken > most)
-            most = taken;
     }
     printf("stack.c: passed, at most %zu bytes of stack\n", most);
     return 0;

@@ -1,4 +1,4 @@
--- The structs that C is given and gives, in the place of enums (Rules 4.22 and 8.25).
+-- The structs that C is given and gives, in the place of enums (Rules 3.2, 4.22 and 8.25).
 -- Assumes nothing.
 use mathlib.Core.Bool.{cond}
 use mathlib.Core.List.{List}
@@ -6,6 +6,9 @@ use Prim.Native.Nat.{ℕ}
 use lib.Dec.{eqb}
 use Rattle.format.specs.declared.Step.{Step}
 use Rattle.format.specs.declared.Step.the-variants.{Found, Refused}
+use Rattle.format.specs.declared.Edition.{Edition}
+use Rattle.format.specs.declared.Edition.the-variants.{Unicode, Ansi}
+use Rattle.format.specs.Text.{width}
 use Rattle.format.specs.Judge.{noRefusal}
 use Rattle.parts.specs.Shown.{emptyRecord}
 use Rattle.serve.specs.declared.Place.{Place}
@@ -15,6 +18,14 @@ use Rattle.serve.specs.Answers.{Served}
 use Rattle.eventlog.specs.declared.Stepped.{Stepped}
 use Rattle.eventlog.specs.declared.ReadHandle.{ReadHandle}
 use Rattle.eventlog.specs.declared.ReadAnswer.{ReadAnswer}
+
+-- Rule 3.2: an edition as a number: 0 is Unicode, every other number ANSI
+abbrev pub editionOf : ℕ → Edition
+editionOf n = cond (eqb n 0) Unicode Ansi
+
+-- Rule 3.2: the width of its units
+abbrev pub unitOf : ℕ → ℕ
+unitOf n = width (editionOf n)
 
 -- Rule 4.22: a step's answer, asked for at a place
 abbrev pub stepped : Step → ℕ → Stepped

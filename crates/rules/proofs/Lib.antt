@@ -1,4 +1,5 @@
 mod FirstPart
 mod RuleOrder
 mod NameSearch
+mod Names
 mod PartTests

@@ -6,6 +6,7 @@ use crate::records::s;
 use crate::show::bytes;
 use crate::show::line;
 use crate::show::topic;
+use format::Edition;
 use format::Step;
 use format::Unnumbered;
 use stores::put;
@@ -13,6 +14,7 @@ use stores::put;
 // Appends U's event.
 fn append_u(what: &[u8], log: &mut [u8], used: usize) {
     let a = append::append(
+        Edition::Unicode,
         log,
         used,
         numbers_of_u(),
@@ -42,14 +44,14 @@ fn append_flags(what: &[u8], kind: u16, flags: u16, log: &mut [u8], used: usize)
         event_category: 0,
         reserved_flags: flags,
     };
-    let a = append::append(log, used, f, b"", b"", b"", b"", b"");
+    let a = append::append(Edition::Unicode, log, used, f, b"", b"", b"", b"", b"");
     let k = a.refusal;
     line(what, &[k.number as u64, k.field as u64, a.used as u64]);
 }
 
 // The number and the start of the record that ends at a place.
 fn last(log: &[u8], end: usize) {
-    match record::step_back(log, end) {
+    match record::step_back(Edition::Unicode, log, end) {
         Step::Found(a) => line(
             b"  the last record's number and start",
             &[a.fields.record_number as u64, a.start as u64],
@@ -102,6 +104,7 @@ fn show_log(log: &[u8; 130]) {
 fn last_number() {
     let mut log = [0xaau8; 128];
     writer::write(
+        Edition::Unicode,
         numbers(0xffff_ffff, 0, 0, 0),
         b"",
         b"",

@@ -19,15 +19,15 @@ fn stepped(what: &[u8], x: Stepped) {
 }
 
 fn step(what: &[u8], log: &[u8; 284], at: usize) {
-    stepped(what, eventlog::eventlog_step(log, at));
+    stepped(what, eventlog::eventlog_step(0, log, at));
 }
 
 fn step_back(what: &[u8], log: &[u8; 284], end: usize) {
-    stepped(what, eventlog::eventlog_step_back(log, end));
+    stepped(what, eventlog::eventlog_step_back(0, log, end));
 }
 
 fn refusal(what: &[u8], log: &[u8; 284], at: usize) {
-    let k = eventlog::eventlog_refusal(log, at);
+    let k = eventlog::eventlog_refusal(0, log, at);
     line(what, &[k.number as u64, k.field as u64]);
 }
 
@@ -44,8 +44,8 @@ fn steps() {
 
 fn string(what: &[u8], at: usize, k: u32) {
     let log = log();
-    let p = eventlog::eventlog_string(&log, at, k);
-    let x = eventlog::eventlog_string_refusal(&log, at, k);
+    let p = eventlog::eventlog_string(0, &log, at, k);
+    let x = eventlog::eventlog_string_refusal(0, &log, at, k);
     line(
         what,
         &[x.number as u64, x.field as u64, p.at as u64, p.len as u64],
@@ -61,7 +61,7 @@ fn strings() {
 }
 
 fn next_string(what: &[u8], log: &[u8; 284], run: Part, place: usize) {
-    let x = eventlog::eventlog_next_string(log, run, place);
+    let x = eventlog::eventlog_next_string(0, log, run, place);
     line(
         what,
         &[
@@ -89,8 +89,8 @@ fn damaged() {
 
 fn walks(what: &[u8], log: &[u8; 284], end: usize) {
     let s = part(log, 0, end);
-    let w = eventlog::eventlog_walk(s);
-    let b = eventlog::eventlog_walk_back(s);
+    let w = eventlog::eventlog_walk(0, s);
+    let b = eventlog::eventlog_walk_back(0, s);
     line(
         what,
         &[
@@ -110,6 +110,7 @@ fn walks(what: &[u8], log: &[u8; 284], end: usize) {
 fn writes() {
     let mut out = [0xaau8; 100];
     let w = eventlog::eventlog_write(
+        0,
         numbers(5, 0, 1, 0),
         b"P\0",
         b"K\0K\0",
@@ -123,6 +124,7 @@ fn writes() {
     let mut log = [0xaau8; 300];
     stores::put(&mut log, 0, &out);
     let a = eventlog::eventlog_append(
+        0,
         &mut log,
         88,
         numbers_of_u(),
@@ -140,7 +142,7 @@ fn writes() {
 fn read(what: &[u8], h: ReadHandle, flags: u32, number: u32, size: usize) -> ReadHandle {
     let log = log();
     let mut out = [0xaau8; 300];
-    let a = eventlog::eventlog_read(h, &log, flags, number, size, &mut out);
+    let a = eventlog::eventlog_read(0, h, &log, flags, number, size, &mut out);
     line(what, &[a.status as u64, a.read as u64, a.needed as u64]);
     let h = a.handle;
     line(b"  the handle", &[h.kind as u64, h.boundary as u64]);
@@ -173,7 +175,7 @@ fn reads() {
 }
 
 fn listing(what: &[u8], log: &[u8; 284], out: &mut [u8]) {
-    let w = eventlog::eventlog_listing(log, out);
+    let w = eventlog::eventlog_listing(0, log, out);
     line(what, &[w.refusal as u64, w.length as u64]);
     bytes(b"  the output", out);
 }

@@ -5,10 +5,11 @@ use crate::records::part;
 use crate::show::bytes;
 use crate::show::line;
 use crate::show::topic;
+use format::Edition;
 use libc::STDOUT_FILENO;
 
 fn list(what: &[u8], batch: &[u8], out: &mut [u8]) {
-    let w = listing::listing(batch, out);
+    let w = listing::listing(Edition::Unicode, batch, out);
     line(what, &[w.refusal as u64, w.length as u64]);
     io::write_all(STDOUT_FILENO, part(out, 0, w.length));
     bytes(b"  after it", part(out, w.length, out.len()));

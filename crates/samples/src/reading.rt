@@ -8,6 +8,7 @@ use crate::records::t;
 use crate::show::bytes;
 use crate::show::line;
 use crate::show::topic;
+use format::Edition;
 use format::Part;
 use format::Record;
 use format::Refusal;
@@ -55,11 +56,11 @@ pub fn show_record(what: &[u8], a: Record) {
 
 // An array's type says its length, which nothing that is asked of it changes.
 fn step(what: &[u8], log: &[u8; 284], at: usize) {
-    show_step(what, record::step(log, at));
+    show_step(what, record::step(Edition::Unicode, log, at));
 }
 
 fn step_back(what: &[u8], log: &[u8; 284], end: usize) {
-    show_step(what, record::step_back(log, end));
+    show_step(what, record::step_back(Edition::Unicode, log, end));
 }
 
 fn show_step(what: &[u8], x: Step) {
@@ -73,7 +74,7 @@ fn show_step(what: &[u8], x: Step) {
 
 // The refusal of the record that ends at a place.
 pub fn refusal_back(r: &[u8], end: usize) -> Refusal {
-    match record::step_back(r, end) {
+    match record::step_back(Edition::Unicode, r, end) {
         Step::Found(_) => Refusal {
             number: 0,
             field: 0,
@@ -85,7 +86,7 @@ pub fn refusal_back(r: &[u8], end: usize) -> Refusal {
 // The refusals of the record that fills the buffer, each with its field: of the step at its start, and of the
 // step from its end.
 pub fn refusals(what: &[u8], r: &[u8]) {
-    let f = record::refusal(r, 0);
+    let f = record::refusal(Edition::Unicode, r, 0);
     let b = refusal_back(r, r.len());
     line(
         what,
@@ -258,11 +259,20 @@ fn gapless() -> [u8; 100] {
 
 fn gaps() {
     let mut r = gapped();
-    show_step(b"T with a gap of eight bytes", record::step(&r, 0));
-    show_step(b"the same from the rear", record::step_back(&r, 108));
+    show_step(
+        b"T with a gap of eight bytes",
+        record::step(Edition::Unicode, &r, 0),
+    );
+    show_step(
+        b"the same from the rear",
+        record::step_back(Edition::Unicode, &r, 108),
+    );
     put(&mut r, 36, b"\x5f");
     refusals(b"the same with a string offset of 95", &r);
-    show_step(b"T with no gap", record::step(&gapless(), 0));
+    show_step(
+        b"T with no gap",
+        record::step(Edition::Unicode, &gapless(), 0),
+    );
     let mut s = s();
     put(&mut s, 26, b"\x01");
     put(&mut s, 36, b"\x38");
@@ -308,13 +318,13 @@ fn most_data() {
 
 // Where string k of the record at a place of the log lies, its refusal, and its bytes.
 fn show_string(what: &[u8], log: &[u8; 284], at: usize, k: u32) {
-    let p = parts::string_part(log, at, k);
-    let x = parts::string_refusal(log, at, k);
+    let p = parts::string_part(Edition::Unicode, log, at, k);
+    let x = parts::string_refusal(Edition::Unicode, log, at, k);
     line(
         what,
         &[x.number as u64, x.field as u64, p.at as u64, p.len as u64],
     );
-    bytes(b"  its bytes", parts::string(log, at, k));
+    bytes(b"  its bytes", parts::string(Edition::Unicode, log, at, k));
 }
 
 fn strings_by_number() {
@@ -339,7 +349,7 @@ fn string_of_wrong_type() {
 
 // The string that starts at a place of a run of the log: its refusal, where it lies, and the place after it.
 fn show_next(what: &[u8], run: Part, place: usize) {
-    let x = strings::next_string(&log(), run, place);
+    let x = strings::next_string(Edition::Unicode, &log(), run, place);
     line(
         what,
         &[
@@ -384,10 +394,13 @@ fn runs_of_strings() {
 }
 
 fn show_parts(what: &[u8], log: &[u8; 284], at: usize) {
-    bytes(what, parts::source_name(log, at));
-    bytes(b"  computer name", parts::computer_name(log, at));
-    bytes(b"  SID", parts::sid(log, at));
-    bytes(b"  data", parts::event_data(log, at));
+    bytes(what, parts::source_name(Edition::Unicode, log, at));
+    bytes(
+        b"  computer name",
+        parts::computer_name(Edition::Unicode, log, at),
+    );
+    bytes(b"  SID", parts::sid(Edition::Unicode, log, at));
+    bytes(b"  data", parts::event_data(Edition::Unicode, log, at));
 }
 
 fn shown_parts() {

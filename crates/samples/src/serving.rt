@@ -6,6 +6,7 @@ use crate::records::part;
 use crate::show::bytes;
 use crate::show::line;
 use crate::show::topic;
+use format::Edition;
 use libc::STDOUT_FILENO;
 use serve::Answer;
 use serve::Handle;
@@ -37,7 +38,7 @@ fn show(what: &[u8], a: Answer, out: &[u8]) {
     line(b", read and needed", &[a.read as u64, a.needed as u64]);
     show_handle(a.handle);
     let n = a.read;
-    let w = walk::front(part(out, 0, n));
+    let w = walk::front(Edition::Unicode, part(out, 0, n));
     line(
         b"  records in the output, and their refusal",
         &[w.count as u64, w.refusal.number as u64],
@@ -57,7 +58,7 @@ fn show_rest(out: &[u8], n: usize) {
 // A read into a buffer of 300 bytes.
 fn read(what: &[u8], h: Handle, log: &[u8; 284], flags: u32, number: u32, size: usize) -> Handle {
     let mut out = [0xaau8; 300];
-    let a = h.read(log, flags, number, size, &mut out);
+    let a = h.read(Edition::Unicode, log, flags, number, size, &mut out);
     show(what, a, &out);
     a.handle
 }
@@ -148,7 +149,7 @@ fn damaged() {
 // A read of an empty log into no bytes.
 fn empty(what: &[u8], flags: u32, number: u32) {
     let mut out = [0u8; 0];
-    let a = Handle::fresh().read(b"", flags, number, 0, &mut out);
+    let a = Handle::fresh().read(Edition::Unicode, b"", flags, number, 0, &mut out);
     show(what, a, &out);
 }
 
@@ -161,16 +162,23 @@ fn empty_log() {
 // The largest size, and one more, of an empty log.
 fn largest() {
     let mut out = [0xaau8; 524289];
-    let a = Handle::fresh().read(b"", FORWARDS, 0, 524287, &mut out);
+    let a = Handle::fresh().read(Edition::Unicode, b"", FORWARDS, 0, 524287, &mut out);
     show(b"size 524287", a, &out);
-    let a = Handle::fresh().read(b"", FORWARDS, 0, 524288, &mut out);
+    let a = Handle::fresh().read(Edition::Unicode, b"", FORWARDS, 0, 524288, &mut out);
     show(b"size 524288", a, &out);
 }
 
 // The whole output of a read, each way.
 fn outputs(log: &[u8; 284]) {
     let mut out = [0xaau8; 170];
-    let a = Handle::fresh().read(part(log, 0, 168), BACKWARDS, 0, 170, &mut out);
+    let a = Handle::fresh().read(
+        Edition::Unicode,
+        part(log, 0, 168),
+        BACKWARDS,
+        0,
+        170,
+        &mut out,
+    );
     show(b"S and T backwards", a, &out);
     bytes(b"  the output", &out);
 }

@@ -8,6 +8,7 @@ use crate::show::topic;
 use content::text::Found;
 use content::text::strings_end;
 use content::text::text_len;
+use format::Edition;
 use searches::searches_strings_end;
 use searches::searches_strings_end_by_unit;
 use searches::searches_text_len;
@@ -153,31 +154,35 @@ fn numbers_at() {
     );
 }
 
+fn len_of(t: &[u8]) -> u64 {
+    text_len(Edition::Unicode, t) as u64
+}
+
 fn texts() {
     line(
         b"texts of no bytes, one byte, a zero unit, two units, two units and a byte",
         &[
-            text_len(b"") as u64,
-            text_len(b"A") as u64,
-            text_len(b"\0\0") as u64,
-            text_len(b"A\0B\0") as u64,
-            text_len(b"A\0B\0C") as u64,
+            len_of(b""),
+            len_of(b"A"),
+            len_of(b"\0\0"),
+            len_of(b"A\0B\0"),
+            len_of(b"A\0B\0C"),
         ],
     );
     line(
         b"texts with a zero unit after one, two and three units",
         &[
-            text_len(b"A\0\0\0B\0C\0") as u64,
-            text_len(b"A\0B\0\0\0C\0") as u64,
-            text_len(b"\0A\0B\0C\0\0") as u64,
+            len_of(b"A\0\0\0B\0C\0"),
+            len_of(b"A\0B\0\0\0C\0"),
+            len_of(b"\0A\0B\0C\0\0"),
         ],
     );
     line(
         b"texts with a zero unit last and first of four units, and after four",
         &[
-            text_len(b"A\0B\0C\0\0\0") as u64,
-            text_len(b"\0\0A\0B\0C\0") as u64,
-            text_len(b"A\0B\0C\0D\0\0\0E\0F\0G\0") as u64,
+            len_of(b"A\0B\0C\0\0\0"),
+            len_of(b"\0\0A\0B\0C\0"),
+            len_of(b"A\0B\0C\0D\0\0\0E\0F\0G\0"),
         ],
     );
     line(
@@ -189,12 +194,12 @@ fn texts() {
 fn long_text(at: usize) -> u64 {
     let mut s = [1u8; 256];
     put(&mut s, at, b"\0\0");
-    text_len(&s) as u64
+    len_of(&s)
 }
 
 // Where so many strings end; 99 where there are not so many.
 fn end_of(s: &[u8], count: u32) -> u64 {
-    match strings_end(s, count) {
+    match strings_end(Edition::Unicode, s, count) {
         Found::At(n) => n as u64,
         Found::Nothing => 99,
     }

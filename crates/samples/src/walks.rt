@@ -6,6 +6,7 @@ use crate::records::t;
 use crate::show::line;
 use crate::show::topic;
 use format::Direction;
+use format::Edition;
 use format::Walked;
 use judge::Verdict;
 use stores::put;
@@ -17,10 +18,10 @@ fn walks_of(what: &[u8], log: &[u8; 284], at: usize, end: usize) {
 }
 
 fn walks(what: &[u8], s: &[u8]) {
-    let f = walk::front(s);
-    let r = walk::rear(s);
-    let w = walk::walk(s);
-    let b = walk::walk_back(s);
+    let f = walk::front(Edition::Unicode, s);
+    let r = walk::rear(Edition::Unicode, s);
+    let w = walk::walk(Edition::Unicode, s);
+    let b = walk::walk_back(Edition::Unicode, s);
     walked(what, w);
     stopped(b"  the front's stop", f);
     walked(b"  back", b);
@@ -56,16 +57,16 @@ fn verdict(what: &[u8], v: Verdict) {
 }
 
 fn judged(what: &[u8], log: &[u8; 284], at: usize) {
-    verdict(what, judge::judge(log, at));
+    verdict(what, judge::judge(Edition::Unicode, log, at));
 }
 
 fn judged_back(what: &[u8], log: &[u8; 284], end: usize) {
-    verdict(what, judge::judge_back(log, end));
+    verdict(what, judge::judge_back(Edition::Unicode, log, end));
 }
 
 // The refusal of the log's bytes from one place up to another as one whole record.
 fn whole(log: &[u8; 284], at: usize, end: usize) -> u64 {
-    let k = rules::refusal(Direction::Forwards, part(log, at, end));
+    let k = rules::refusal(Edition::Unicode, Direction::Forwards, part(log, at, end));
     k.number as u64
 }
 
@@ -92,8 +93,8 @@ fn verdicts() {
 fn unequal() {
     let mut s = t();
     put(&mut s, 0, b"\x64");
-    let f = rules::refusal(Direction::Forwards, &s);
-    let b = rules::refusal(Direction::Backwards, &s);
+    let f = rules::refusal(Edition::Unicode, Direction::Forwards, &s);
+    let b = rules::refusal(Edition::Unicode, Direction::Backwards, &s);
     line(
         b"T with Length 100 as a whole record, met forwards and backwards",
         &[
@@ -103,7 +104,7 @@ fn unequal() {
             b.field as u64,
         ],
     );
-    verdict(b"judged back", judge::judge_back(&s, 104));
+    verdict(b"judged back", judge::judge_back(Edition::Unicode, &s, 104));
 }
 
 pub fn walking() {

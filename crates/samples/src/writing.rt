@@ -7,6 +7,7 @@ use crate::records::part;
 use crate::show::bytes;
 use crate::show::line;
 use crate::show::topic;
+use format::Edition;
 use format::Fields;
 
 // The numbers of U.
@@ -35,13 +36,30 @@ fn write(
     event_data: &[u8],
 ) {
     let mut out = [0xaau8; 120];
-    let w = writer::write(f, source, computer, sid, strings, event_data, &mut out);
+    let w = writer::write(
+        Edition::Unicode,
+        f,
+        source,
+        computer,
+        sid,
+        strings,
+        event_data,
+        &mut out,
+    );
     line(
         what,
         &[
             w.refusal as u64,
             w.length as u64,
-            event::refusal(f, source, computer, sid, strings, event_data) as u64,
+            event::refusal(
+                Edition::Unicode,
+                f,
+                source,
+                computer,
+                sid,
+                strings,
+                event_data,
+            ) as u64,
         ],
     );
     bytes(b"  the output", &out);
@@ -80,7 +98,16 @@ fn event_of(
     event_data: &[u8],
 ) {
     let mut out = [0xaau8; 80];
-    let w = writer::write(f, source, computer, sid, strings, event_data, &mut out);
+    let w = writer::write(
+        Edition::Unicode,
+        f,
+        source,
+        computer,
+        sid,
+        strings,
+        event_data,
+        &mut out,
+    );
     line(what, &[w.refusal as u64, w.length as u64]);
     show_start(&out);
 }
@@ -253,13 +280,22 @@ fn strings_refused() {
 
 // A source name and data, into a buffer that is long enough for every record.
 fn long(what: &[u8], source: &[u8], event_data: &[u8], out: &mut [u8]) {
-    let w = writer::write(numbers(7, 0, 0, 0), source, b"", b"", b"", event_data, out);
+    let w = writer::write(
+        Edition::Unicode,
+        numbers(7, 0, 0, 0),
+        source,
+        b"",
+        b"",
+        b"",
+        event_data,
+        out,
+    );
     line(what, &[w.refusal as u64, w.length as u64]);
     if w.refusal == 0 {
         line(
             b"  read again, and from the rear",
             &[
-                record::refusal(out, 0).number as u64,
+                record::refusal(Edition::Unicode, out, 0).number as u64,
                 refusal_back(out, w.length).number as u64,
             ],
         );
@@ -271,9 +307,9 @@ fn lengths_refused() {
     long(b"Length 65536", &[1u8; 4032], &[0u8; 61440], &mut out);
     long(b"61441 bytes of data", b"", &[0u8; 61441], &mut out);
     long(
-        b"61441 bytes of data, Length over the limit",
-        &[1u8; 200640],
-        &[0u8; 61441],
+        b"262100 bytes of data, Length over the limit",
+        b"",
+        &[0u8; 262100],
         &mut out,
     );
     long(b"68 bytes into 68", b"A\0B\0", b"", &mut [0u8; 68]);
@@ -283,7 +319,7 @@ fn lengths_refused() {
 
 // The Length of a record with parts of these lengths, 0 where it would be too long.
 fn length_of(source: usize, computer: usize, sid: usize, strings: usize, bytes: usize) -> u64 {
-    event::places::measure(source, computer, sid, strings, bytes).length as u64
+    event::places::measure(Edition::Unicode, source, computer, sid, strings, bytes).length as u64
 }
 
 fn lengths() {

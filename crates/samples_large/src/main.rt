@@ -2,6 +2,7 @@
 // written, read, appended, walked and served. They stand beside the program samples because `rt try` gives a
 // program ten million steps, and these take more.
 
+use format::Edition;
 use format::Fields;
 use format::Step;
 use format::Unnumbered;
@@ -21,7 +22,7 @@ fn line(what: &[u8], a: u64, b: u64) {
 
 // The refusal of the record that ends at a place.
 fn refusal_back(s: &[u8], end: usize) -> u64 {
-    match record::step_back(s, end) {
+    match record::step_back(Edition::Unicode, s, end) {
         Step::Found(_) => 0,
         Step::Refused { refusal: k, at: _ } => k.number as u64,
     }
@@ -45,7 +46,7 @@ fn string_head() -> [u8; 60] {
 fn refusals(what: &[u8], r: &[u8]) {
     line(
         what,
-        record::refusal(r, 0).number as u64,
+        record::refusal(Edition::Unicode, r, 0).number as u64,
         refusal_back(r, r.len()),
     );
 }
@@ -127,6 +128,7 @@ fn write(what: &[u8], source: &[u8], strings: &[u8; 100000], log: &mut [u8]) {
         reserved_flags: 0,
     };
     let w = writer::write(
+        Edition::Unicode,
         f,
         source,
         &[2u8; 40624],
@@ -149,6 +151,7 @@ fn append(what: &[u8], source: &[u8], strings: &[u8; 100000], log: &mut [u8]) {
         reserved_flags: 0,
     };
     let a = append::append(
+        Edition::Unicode,
         log,
         262140,
         f,
@@ -163,29 +166,29 @@ fn append(what: &[u8], source: &[u8], strings: &[u8; 100000], log: &mut [u8]) {
 
 // A read of one record, and the number of the record at the output's start.
 fn read(what: &[u8], log: &[u8], flags: u32, out: &mut [u8]) {
-    let a = Handle::fresh().read(log, flags, 0, 262140, out);
+    let a = Handle::fresh().read(Edition::Unicode, log, flags, 0, 262140, out);
     line(what, a.status as u64, a.read as u64);
     line(
         b"  its number, and its refusal",
         numbers::u32_at(out, 8) as u64,
-        record::refusal(out, 0).number as u64,
+        record::refusal(Edition::Unicode, out, 0).number as u64,
     );
 }
 
 fn answers(log: &[u8]) {
     line(
         b"the first record, from its start and its end",
-        record::refusal(log, 0).number as u64,
+        record::refusal(Edition::Unicode, log, 0).number as u64,
         refusal_back(log, 262140),
     );
     line(
         b"the second record, from its start and its end",
-        record::refusal(log, 262140).number as u64,
+        record::refusal(Edition::Unicode, log, 262140).number as u64,
         refusal_back(log, 524280),
     );
-    let w = walk::walk(log);
+    let w = walk::walk(Edition::Unicode, log);
     line(b"walk", w.count as u64, w.refusal.number as u64);
-    let b = walk::walk_back(log);
+    let b = walk::walk_back(Edition::Unicode, log);
     line(b"walk back", b.count as u64, b.refusal.number as u64);
     read(b"forwards", log, 5, &mut [0u8; 262140]);
     read(b"backwards", log, 9, &mut [0u8; 262140]);

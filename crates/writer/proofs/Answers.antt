@@ -21,44 +21,44 @@ refused-as : (k : ℕ) (r out : List ℕ) → zero < k → writingAs k r out ≡
 refused-as zero r out h = absurd (omega arith)
 refused-as (suc k) r out h = refl
 
-pub writing-refused : (e : Event) (out : List ℕ) (k : ℕ) → k ≡ eventRefusal 2 e → zero < k
-    → outcome (record { refusal = k; length = 0 }) out ≡ writing 2 e out
+pub writing-refused : (w : ℕ) (e : Event) (out : List ℕ) (k : ℕ) → k ≡ eventRefusal w e → zero < k
+    → outcome (record { refusal = k; length = 0 }) out ≡ writing w e out
 unfolding writing
-writing-refused e out k same h =
-    sym (ap (λ j. writingAs j (written 2 e) out) (sym same) ∙ refused-as k (written 2 e) out h)
+writing-refused w e out k same h =
+    sym (ap (λ j. writingAs j (written w e) out) (sym same) ∙ refused-as k (written w e) out h)
 
 -- ---- an event that nothing refuses
 
-module _ (e : Event) (k : ℕ) (same : k ≡ eventRefusal 2 e) (none : k ≤ 0) where
-  unrefused : eventRefusal 2 e ≡ 0
+module _ (w : ℕ) (e : Event) (k : ℕ) (same : k ≡ eventRefusal w e) (none : k ≤ 0) where
+  unrefused : eventRefusal w e ≡ 0
   unrefused = omega (arith, same, none)
 
-  short : size 2 (writtenSizes 2 e) ≤ maxLength
+  short : size w (writtenSizes w e) ≤ maxLength
   unfolding eventRefusal
   short =
-      leb-means (size 2 (writtenSizes 2 e)) maxLength .holds (met (eventRules 2 e) (omega arith) unrefused .1 .1 .1 .1 .1 .1 .1 .0)
+      leb-means (size w (writtenSizes w e)) maxLength .holds (met (eventRules w e) (omega arith) unrefused .1 .1 .1 .1 .1 .1 .1 .0)
 
   module _ (out : List ℕ) (z : Places)
-      (there : z ≡ placesFor (length (e .sourceName)) (length (e .computerName)) (length (e .sid)) (length (e .strings)) (length (e .eventData))) where
-    placed : z ≡ placesOf (writtenSizes 2 e)
+      (there : z ≡ placesFor w (length (e .sourceName)) (length (e .computerName)) (length (e .sid)) (length (e .strings)) (length (e .eventData))) where
+    placed : z ≡ placesOf w (writtenSizes w e)
     unfolding writtenSizes placesIn
     placed =
         there
-        ∙ ap (λ b. cond b (placesOf (writtenSizes 2 e)) noPlaces) (le-leb (size 2 (writtenSizes 2 e)) maxLength short)
+        ∙ ap (λ b. cond b (placesOf w (writtenSizes w e)) noPlaces) (le-leb (size w (writtenSizes w e)) maxLength short)
 
-    long : z .length ≡ length (written 2 e)
-    long = ap (λ (x : Places). x .length) placed ∙ sym (length-written e)
+    long : z .length ≡ length (written w e)
+    long = ap (λ (x : Places). x .length) placed ∙ sym (length-written w e)
 
-    tested : writing 2 e out ≡ writingAs 0 (written 2 e) out
+    tested : writing w e out ≡ writingAs 0 (written w e) out
     unfolding writing
-    tested = ap (λ j. writingAs j (written 2 e) out) unrefused
+    tested = ap (λ j. writingAs j (written w e) out) unrefused
 
-    pub writing-short : length out < z .length → outcome (record { refusal = 15; length = 0 }) out ≡ writing 2 e out
-    writing-short h = short-refused (written 2 e) out long h ∙ sym tested
+    pub writing-short : length out < z .length → outcome (record { refusal = 15; length = 0 }) out ≡ writing w e out
+    writing-short h = short-refused (written w e) out long h ∙ sym tested
 
-    pub roomy : z .length ≤ length out → RoomFor z e (length out)
+    pub roomy : z .length ≤ length out → RoomFor w z e (length out)
     roomy h = record { places = placed; short = short; fits = omega (arith, h, ap (λ (x : Places). x .length) placed) }
 
-    pub writing-done : {r : ℕ} {m : List ℕ} → z .length ≤ length out → Stored out 0 (written 2 e) r m
-        → outcome (record { refusal = 0; length = z .length }) m ≡ writing 2 e out
-    writing-done h x = stored-written (written 2 e) out long h x ∙ sym tested
+    pub writing-done : {r : ℕ} {m : List ℕ} → z .length ≤ length out → Stored out 0 (written w e) r m
+        → outcome (record { refusal = 0; length = z .length }) m ≡ writing w e out
+    writing-done h x = stored-written (written w e) out long h x ∙ sym tested

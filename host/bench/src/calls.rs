@@ -1,28 +1,47 @@
-//! The calls that are measured, by the same names in each library.
+//! The calls that are measured, by the same names in each library. An edition is
+//! the plain library's.
+
+use plain::Edition;
+
+/// The same edition of another library.
+macro_rules! edition_of {
+    ($library:ident) => {
+        fn edition(edition: super::Edition) -> $library::Edition {
+            match edition {
+                super::Edition::Unicode => $library::Edition::Unicode,
+                super::Edition::Ansi => $library::Edition::Ansi,
+            }
+        }
+    };
+}
 
 /// The proved library, through the binding; and its searches by themselves.
 pub mod proved {
+    use super::Edition;
     use eventlog::{Handle, Status, StoppedWalk};
+
+    edition_of!(eventlog);
 
     /// How many records a walk found; the batches are good.
     fn counted(walked: Result<usize, StoppedWalk>) -> usize {
         walked.unwrap_or_else(|stopped| stopped.count)
     }
 
-    pub fn walk(log: &[u8]) -> usize {
-        counted(eventlog::walk(log))
+    pub fn walk(e: Edition, log: &[u8]) -> usize {
+        counted(eventlog::walk(edition(e), log))
     }
 
-    pub fn walk_back(log: &[u8]) -> usize {
-        counted(eventlog::walk_back(log))
+    pub fn walk_back(e: Edition, log: &[u8]) -> usize {
+        counted(eventlog::walk_back(edition(e), log))
     }
 
     /// Reads the whole log, one direction; answers the bytes read.
-    pub fn serve(log: &[u8], flags: u32, out: &mut [u8]) -> usize {
+    pub fn serve(e: Edition, log: &[u8], flags: u32, out: &mut [u8]) -> usize {
+        let edition = edition(e);
         let mut handle = Handle::fresh();
         let mut sum = 0;
         loop {
-            match handle.read_with_flags(log, flags, 0, out.len(), out) {
+            match handle.read_with_flags(edition, log, flags, 0, out.len(), out) {
                 Ok(batch) => {
                     sum += batch.bytes.len();
                     handle = batch.handle;
@@ -37,14 +56,15 @@ pub mod proved {
 
     /// All strings of a record, after a step in turn; answers their bytes.
     pub fn strings_in_turn(record: &[u8]) -> usize {
-        let found = eventlog::step(record, 0).expect("it is good");
+        let found = eventlog::step(eventlog::Edition::Unicode, record, 0).expect("it is good");
         found.strings().map(|s| s.as_bytes().len()).sum()
     }
 
     /// All strings of a record by number.
     pub fn strings_by_number(record: &[u8], count: u32) -> usize {
+        let unicode = eventlog::Edition::Unicode;
         (0..count)
-            .map(|k| eventlog::string(record, 0, k).map_or(0, |s| s.as_bytes().len()))
+            .map(|k| eventlog::string(unicode, record, 0, k).map_or(0, |s| s.as_bytes().len()))
             .sum()
     }
 
@@ -108,21 +128,25 @@ pub mod by_unit {
 macro_rules! ordinary {
     ($module:ident, $library:ident) => {
         pub mod $module {
+            use super::Edition;
             use $library::{status, Handle};
 
-            pub fn walk(log: &[u8]) -> usize {
-                $library::walk(log).count
+            edition_of!($library);
+
+            pub fn walk(e: Edition, log: &[u8]) -> usize {
+                $library::walk(edition(e), log).count
             }
 
-            pub fn walk_back(log: &[u8]) -> usize {
-                $library::walk_back(log).count
+            pub fn walk_back(e: Edition, log: &[u8]) -> usize {
+                $library::walk_back(edition(e), log).count
             }
 
-            pub fn serve(log: &[u8], flags: u32, out: &mut [u8]) -> usize {
+            pub fn serve(e: Edition, log: &[u8], flags: u32, out: &mut [u8]) -> usize {
+                let edition = edition(e);
                 let mut handle = Handle::fresh();
                 let mut sum = 0;
                 loop {
-                    let answer = handle.read(log, flags, 0, out.len(), out);
+                    let answer = handle.read(edition, log, flags, 0, out.len(), out);
                     if answer.status != 0 {
                         assert_eq!((answer.status, sum), (status::END_OF_FILE, log.len()));
                         return sum;
@@ -133,20 +157,22 @@ macro_rules! ordinary {
             }
 
             pub fn strings_in_turn(record: &[u8]) -> usize {
-                let found = $library::step(record, 0).expect("it is good");
+                let unicode = $library::Edition::Unicode;
+                let found = $library::step(unicode, record, 0).expect("it is good");
                 let run = (found.strings_at, found.strings.len());
-                let mut next = $library::next_string(record, run, run.0);
+                let mut next = $library::next_string(unicode, record, run, run.0);
                 let mut sum = 0;
                 while next.refusal == 0 {
                     sum += next.len;
-                    next = $library::next_string(record, run, next.next);
+                    next = $library::next_string(unicode, record, run, next.next);
                 }
                 sum
             }
 
             pub fn strings_by_number(record: &[u8], count: u32) -> usize {
+                let unicode = $library::Edition::Unicode;
                 (0..count)
-                    .map(|k| $library::string(record, 0, k).len())
+                    .map(|k| $library::string(unicode, record, 0, k).len())
                     .sum()
             }
 
@@ -172,12 +198,12 @@ macro_rules! ordinary {
             /// As a call, as the proved ones are.
             #[inline(never)]
             pub fn name_end(t: &[u8]) -> usize {
-                $library::after_zero_units(t, 0, 1).unwrap_or(0)
+                $library::after_zero_units::<2>(t, 0, 1).unwrap_or(0)
             }
 
             #[inline(never)]
             pub fn strings_end(t: &[u8], count: u32) -> usize {
-                $library::after_zero_units(t, 0, count as usize).unwrap_or(0)
+                $library::after_zero_units::<2>(t, 0, count as usize).unwrap_or(0)
             }
         }
     };

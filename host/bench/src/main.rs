@@ -10,8 +10,9 @@ use std::hint::black_box;
 use std::ops::RangeInclusive;
 
 use calls::{by_unit, proved, tuned, untuned};
-use compare::make::{text, Made, MAX_DATA};
+use compare::make::{text, width, Made, MAX_DATA};
 use compare::random::Random;
+use plain::Edition::{self, Ansi, Unicode};
 use table::{Table, Work};
 
 /// All is measured so many times, one table after the other.
@@ -32,21 +33,21 @@ const SEARCHED: usize = 60_000;
 const BEHIND: usize = 200;
 
 /// Records of about this Length, as many as fit into a batch.
-fn batch(rng: &mut Random, length: usize) -> Vec<u8> {
+fn batch(edition: Edition, rng: &mut Random, length: usize) -> Vec<u8> {
     let mut out = Vec::with_capacity(BATCH);
     for number in 1.. {
-        let mut made = Made::default();
+        let mut made = Made::new(edition);
         made.fields.record_number = number;
         if length < 500 {
-            made.source = text(rng, 5);
-            made.computer = text(rng, 4);
+            made.source = text(edition, rng, 5);
+            made.computer = text(edition, rng, 4);
         } else {
-            made.source = text(rng, 12);
-            made.computer = text(rng, 10);
+            made.source = text(edition, rng, 12);
+            made.computer = text(edition, rng, 10);
             made.sid = [&[1, 5][..], &rng.bytes(26)].concat();
-            // What the data cannot take is in the strings.
+            // What the data cannot take is in the strings, of 784 bytes each.
             match length > MAX_DATA {
-                true => push_strings(&mut made, rng, STRINGS, 391),
+                true => push_strings(&mut made, rng, STRINGS, 784 / width(edition) - 1),
                 false => push_strings(&mut made, rng, 6, 20),
             }
         }
@@ -63,22 +64,25 @@ fn batch(rng: &mut Random, length: usize) -> Vec<u8> {
 /// So many strings, all of this length.
 fn push_strings(made: &mut Made, rng: &mut Random, count: usize, units: usize) {
     for _ in 0..count {
-        made.strings.extend(text(rng, units));
-        made.strings.extend([0, 0]);
-        made.fields.num_strings += 1;
+        made.push_string(rng, units);
     }
 }
 
 /// Walks and reads of a batch of such records.
-fn batch_rows(table: &mut Table<3>, name: &str, log: &[u8]) {
+fn batch_rows(table: &mut Table<3>, edition: Edition, name: &str, log: &[u8]) {
+    // Rows of Unicode have their old names.
+    let name = match edition {
+        Unicode => name.to_string(),
+        Ansi => format!("{name}, ANSI"),
+    };
     table.row(
         &format!("walk, records of {name}"),
         ROUNDS,
         1.0,
         &mut [
-            &mut || proved::walk(black_box(log)),
-            &mut || tuned::walk(black_box(log)),
-            &mut || untuned::walk(black_box(log)),
+            &mut || proved::walk(edition, black_box(log)),
+            &mut || tuned::walk(edition, black_box(log)),
+            &mut || untuned::walk(edition, black_box(log)),
         ],
     );
     table.row(
@@ -86,12 +90,12 @@ fn batch_rows(table: &mut Table<3>, name: &str, log: &[u8]) {
         ROUNDS,
         1.0,
         &mut [
-            &mut || proved::walk_back(black_box(log)),
-            &mut || tuned::walk_back(black_box(log)),
-            &mut || untuned::walk_back(black_box(log)),
+            &mut || proved::walk_back(edition, black_box(log)),
+            &mut || tuned::walk_back(edition, black_box(log)),
+            &mut || untuned::walk_back(edition, black_box(log)),
         ],
     );
-    let size = match plain::judge(log, 0) {
+    let size = match plain::judge(edition, log, 0) {
         Ok(length) if length <= READ => READ,
         _ => plain::MAX_READ,
     };
@@ -103,22 +107,28 @@ fn batch_rows(table: &mut Table<3>, name: &str, log: &[u8]) {
             ROUNDS,
             1.0,
             &mut [
-                &mut || proved::serve(black_box(log), flags, a),
-                &mut || tuned::serve(black_box(log), flags, b),
-                &mut || untuned::serve(black_box(log), flags, c),
+                &mut || proved::serve(edition, black_box(log), flags, a),
+                &mut || tuned::serve(edition, black_box(log), flags, b),
+                &mut || untuned::serve(edition, black_box(log), flags, c),
             ],
         );
     }
 }
 
 /// Many walks of one record with a long name.
-fn name_row(table: &mut Table<3>, record: &[u8]) {
-    let times = |walk: fn(&[u8]) -> usize| {
+fn name_row(table: &mut Table<3>, edition: Edition, record: &[u8]) {
+    let times = |walk: fn(Edition, &[u8]) -> usize| {
         let walks = 0..NAME_WALKS;
-        walks.map(|_| walk(black_box(record))).sum::<usize>()
+        walks
+            .map(|_| walk(edition, black_box(record)))
+            .sum::<usize>()
+    };
+    let name = match edition {
+        Unicode => "a name of 30,000 units, 1,000 walks",
+        Ansi => "a name of 30,000 units, 1,000 walks, ANSI",
     };
     table.row(
-        "a name of 30,000 units, 1,000 walks",
+        name,
         ROUNDS,
         1.0,
         &mut [
@@ -241,7 +251,7 @@ impl Runs {
             let mut run = vec![0xEE; i % 2];
             for _ in 0..strings {
                 let units = rng.range(low, high);
-                run.extend(text(rng, units));
+                run.extend(text(Unicode, rng, units));
                 run.extend([0, 0]);
                 all += units + 1;
             }
@@ -304,19 +314,24 @@ fn search_rows(table: &mut Table<4>, names: &[Runs], strings: &[Runs]) {
 fn main() {
     let mut rng = Random::new(1);
     let rng = &mut rng;
-    let batches = [
-        ("100 bytes", 100),
-        ("1 KiB", 1024),
-        ("60 KiB", 60 << 10),
-        ("256 KiB", 262_100),
-    ]
-    .map(|(name, length)| (name, batch(rng, length)));
-    let long_name = Made {
-        source: text(rng, 30_000),
-        ..Made::default()
+    let mut batches_of = |edition| {
+        [
+            ("100 bytes", 100),
+            ("1 KiB", 1024),
+            ("60 KiB", 60 << 10),
+            ("256 KiB", 262_100),
+        ]
+        .map(|(name, length)| (edition, name, batch(edition, rng, length)))
     };
-    let long_name = long_name.encode(None);
-    let mut many_strings = Made::default();
+    let batches = [batches_of(Unicode), batches_of(Ansi)].concat();
+    let long_names = [Unicode, Ansi].map(|edition| {
+        let long_name = Made {
+            source: text(edition, rng, 30_000),
+            ..Made::new(edition)
+        };
+        (edition, long_name.encode(None))
+    });
+    let mut many_strings = Made::new(Unicode);
     push_strings(&mut many_strings, rng, STRINGS, 126);
     let many_strings = many_strings.encode(None);
 
@@ -348,12 +363,14 @@ fn main() {
     for run in 1..=RUNS {
         eprintln!("run {run} of {RUNS}");
         search_rows(&mut searches, &names, &strings);
-        for (name, log) in &batches {
-            batch_rows(&mut calls, name, log);
+        for (edition, name, log) in &batches {
+            batch_rows(&mut calls, *edition, name, log);
         }
-        name_row(&mut calls, &long_name);
+        for (edition, record) in &long_names {
+            name_row(&mut calls, *edition, record);
+        }
         string_rows(&mut calls, &many_strings);
-        card_rows(&mut calls, &batches[0].1);
+        card_rows(&mut calls, &batches[0].2);
         text_rows(&mut calls, &text_1252);
     }
     println!(

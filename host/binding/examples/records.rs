@@ -6,9 +6,12 @@ use std::io::{self, Write};
 use std::{env, fs};
 
 use eventlog::{
-    Direction, Event, Handle, MAX_LENGTH, MAX_READ, ReadKind, Record, Status, append, event_type,
-    records, utf16,
+    Direction, Edition, Event, Handle, MAX_LENGTH, MAX_READ, ReadKind, Record, Status, append,
+    event_type, records, utf16,
 };
+
+/// The log's texts are UTF-16.
+const EDITION: Edition = Edition::Unicode;
 
 fn print(record: &Record, out: &mut dyn Write) -> io::Result<()> {
     let Event {
@@ -31,7 +34,7 @@ fn print(record: &Record, out: &mut dyn Write) -> io::Result<()> {
 ///
 /// Whatever is refused, or cannot be printed.
 pub fn run(mut log: Vec<u8>, out: &mut dyn Write) -> Result<(), Box<dyn Error>> {
-    for record in records(&log) {
+    for record in records(EDITION, &log) {
         print(&record?, out)?;
     }
     let repair = Event {
@@ -45,7 +48,7 @@ pub fn run(mut log: Vec<u8>, out: &mut dyn Write) -> Result<(), Box<dyn Error>> 
     };
     let used = log.len();
     log.resize(used + MAX_LENGTH, 0);
-    let used = append(&mut log, used, &repair)?;
+    let used = append(EDITION, &mut log, used, &repair)?;
 
     writeln!(out, "from the rear:")?;
     let (log, mut batch) = (&log[..used], vec![0; MAX_READ]);
@@ -53,6 +56,7 @@ pub fn run(mut log: Vec<u8>, out: &mut dyn Write) -> Result<(), Box<dyn Error>> 
     loop {
         let size = batch.len();
         match handle.read(
+            EDITION,
             log,
             ReadKind::Sequential,
             Direction::Backwards,

@@ -1,7 +1,7 @@
 //! The calls of `include/eventlog.h`, each behind a safe function: the only
 //! unsafe code. A slice goes over as pointer and length.
 
-use crate::Event;
+use crate::{Edition, Event};
 
 #[repr(C)]
 #[derive(Clone, Copy, Debug, Default, PartialEq, Eq)]
@@ -123,20 +123,39 @@ const _: () = {
 };
 
 unsafe extern "C" {
-    fn eventlog_step(buffer: *const u8, buffer_len: usize, at: usize) -> Stepped;
-    fn eventlog_step_back(buffer: *const u8, buffer_len: usize, end: usize) -> Stepped;
-    fn eventlog_refusal(buffer: *const u8, buffer_len: usize, at: usize) -> Refused;
-    fn eventlog_string(buffer: *const u8, buffer_len: usize, at: usize, k: u32) -> Part;
-    fn eventlog_string_refusal(buffer: *const u8, buffer_len: usize, at: usize, k: u32) -> Refused;
+    fn eventlog_step(edition: u32, buffer: *const u8, buffer_len: usize, at: usize) -> Stepped;
+    fn eventlog_step_back(
+        edition: u32,
+        buffer: *const u8,
+        buffer_len: usize,
+        end: usize,
+    ) -> Stepped;
+    fn eventlog_refusal(edition: u32, buffer: *const u8, buffer_len: usize, at: usize) -> Refused;
+    fn eventlog_string(
+        edition: u32,
+        buffer: *const u8,
+        buffer_len: usize,
+        at: usize,
+        k: u32,
+    ) -> Part;
+    fn eventlog_string_refusal(
+        edition: u32,
+        buffer: *const u8,
+        buffer_len: usize,
+        at: usize,
+        k: u32,
+    ) -> Refused;
     fn eventlog_next_string(
+        edition: u32,
         buffer: *const u8,
         buffer_len: usize,
         run: Part,
         place: usize,
     ) -> NextString;
-    fn eventlog_walk(buffer: *const u8, buffer_len: usize) -> Walked;
-    fn eventlog_walk_back(buffer: *const u8, buffer_len: usize) -> Walked;
+    fn eventlog_walk(edition: u32, buffer: *const u8, buffer_len: usize) -> Walked;
+    fn eventlog_walk_back(edition: u32, buffer: *const u8, buffer_len: usize) -> Walked;
     fn eventlog_write(
+        edition: u32,
         fields: Fields,
         source_name: *const u8,
         source_name_len: usize,
@@ -152,6 +171,7 @@ unsafe extern "C" {
         out_len: usize,
     ) -> Written;
     fn eventlog_append(
+        edition: u32,
         log: *mut u8,
         log_len: usize,
         used: usize,
@@ -169,6 +189,7 @@ unsafe extern "C" {
     ) -> Appended;
     fn eventlog_fresh() -> Handle;
     fn eventlog_read(
+        edition: u32,
         handle: Handle,
         log: *const u8,
         log_len: usize,
@@ -179,6 +200,7 @@ unsafe extern "C" {
         out_len: usize,
     ) -> Answer;
     fn eventlog_listing(
+        edition: u32,
         buffer: *const u8,
         buffer_len: usize,
         out: *mut u8,
@@ -208,47 +230,52 @@ unsafe extern "C" {
     ) -> Written;
 }
 
-pub(crate) fn step(buffer: &[u8], at: usize) -> Stepped {
+pub(crate) fn step(edition: Edition, buffer: &[u8], at: usize) -> Stepped {
     // SAFETY: `buffer` is readable for its length; any place may be asked for.
-    unsafe { eventlog_step(buffer.as_ptr(), buffer.len(), at) }
+    unsafe { eventlog_step(edition.number(), buffer.as_ptr(), buffer.len(), at) }
 }
 
-pub(crate) fn step_back(buffer: &[u8], end: usize) -> Stepped {
+pub(crate) fn step_back(edition: Edition, buffer: &[u8], end: usize) -> Stepped {
     // SAFETY: as in `step`.
-    unsafe { eventlog_step_back(buffer.as_ptr(), buffer.len(), end) }
+    unsafe { eventlog_step_back(edition.number(), buffer.as_ptr(), buffer.len(), end) }
 }
 
-pub(crate) fn refusal(buffer: &[u8], at: usize) -> Refused {
+pub(crate) fn refusal(edition: Edition, buffer: &[u8], at: usize) -> Refused {
     // SAFETY: as in `step`.
-    unsafe { eventlog_refusal(buffer.as_ptr(), buffer.len(), at) }
+    unsafe { eventlog_refusal(edition.number(), buffer.as_ptr(), buffer.len(), at) }
 }
 
-pub(crate) fn string(buffer: &[u8], at: usize, k: u32) -> Part {
+pub(crate) fn string(edition: Edition, buffer: &[u8], at: usize, k: u32) -> Part {
     // SAFETY: as in `step`; any number may be asked for.
-    unsafe { eventlog_string(buffer.as_ptr(), buffer.len(), at, k) }
+    unsafe { eventlog_string(edition.number(), buffer.as_ptr(), buffer.len(), at, k) }
 }
 
-pub(crate) fn string_refusal(buffer: &[u8], at: usize, k: u32) -> Refused {
+pub(crate) fn string_refusal(edition: Edition, buffer: &[u8], at: usize, k: u32) -> Refused {
     // SAFETY: as in `string`.
-    unsafe { eventlog_string_refusal(buffer.as_ptr(), buffer.len(), at, k) }
+    unsafe { eventlog_string_refusal(edition.number(), buffer.as_ptr(), buffer.len(), at, k) }
 }
 
-pub(crate) fn next_string(buffer: &[u8], run: Part, place: usize) -> NextString {
+pub(crate) fn next_string(edition: Edition, buffer: &[u8], run: Part, place: usize) -> NextString {
     // SAFETY: `buffer` is readable for its length; any run and place may be given.
-    unsafe { eventlog_next_string(buffer.as_ptr(), buffer.len(), run, place) }
+    unsafe { eventlog_next_string(edition.number(), buffer.as_ptr(), buffer.len(), run, place) }
 }
 
-pub(crate) fn walk(buffer: &[u8]) -> Walked {
+pub(crate) fn walk(edition: Edition, buffer: &[u8]) -> Walked {
     // SAFETY: `buffer` is readable for its length.
-    unsafe { eventlog_walk(buffer.as_ptr(), buffer.len()) }
+    unsafe { eventlog_walk(edition.number(), buffer.as_ptr(), buffer.len()) }
 }
 
-pub(crate) fn walk_back(buffer: &[u8]) -> Walked {
+pub(crate) fn walk_back(edition: Edition, buffer: &[u8]) -> Walked {
     // SAFETY: `buffer` is readable for its length.
-    unsafe { eventlog_walk_back(buffer.as_ptr(), buffer.len()) }
+    unsafe { eventlog_walk_back(edition.number(), buffer.as_ptr(), buffer.len()) }
 }
 
-pub(crate) fn write(record_number: u32, e: &Event<'_>, out: &mut [u8]) -> Written {
+pub(crate) fn write(
+    edition: Edition,
+    record_number: u32,
+    e: &Event<'_>,
+    out: &mut [u8],
+) -> Written {
     let fields = Fields {
         record_number,
         time_generated: e.time_generated,
@@ -264,6 +291,7 @@ pub(crate) fn write(record_number: u32, e: &Event<'_>, out: &mut [u8]) -> Writte
     // its own and, as a `&mut`, overlaps none of them.
     unsafe {
         eventlog_write(
+            edition.number(),
             fields,
             source_name.as_ptr(),
             source_name.len(),
@@ -281,7 +309,7 @@ pub(crate) fn write(record_number: u32, e: &Event<'_>, out: &mut [u8]) -> Writte
     }
 }
 
-pub(crate) fn append(log: &mut [u8], used: usize, e: &Event<'_>) -> Appended {
+pub(crate) fn append(edition: Edition, log: &mut [u8], used: usize, e: &Event<'_>) -> Appended {
     let fields = Unnumbered {
         time_generated: e.time_generated,
         time_written: e.time_written,
@@ -295,6 +323,7 @@ pub(crate) fn append(log: &mut [u8], used: usize, e: &Event<'_>) -> Appended {
     // SAFETY: as in `write`, with `log` for `out`; any `used` may be given.
     unsafe {
         eventlog_append(
+            edition.number(),
             log.as_mut_ptr(),
             log.len(),
             used,
@@ -319,6 +348,7 @@ pub(crate) fn fresh() -> Handle {
 }
 
 pub(crate) fn read(
+    edition: Edition,
     handle: Handle,
     log: &[u8],
     flags: u32,
@@ -330,6 +360,7 @@ pub(crate) fn read(
     // does not overlap; any handle and numbers may be given.
     unsafe {
         eventlog_read(
+            edition.number(),
             handle,
             log.as_ptr(),
             log.len(),
@@ -342,10 +373,18 @@ pub(crate) fn read(
     }
 }
 
-pub(crate) fn listing(buffer: &[u8], out: &mut [u8]) -> Written {
+pub(crate) fn listing(edition: Edition, buffer: &[u8], out: &mut [u8]) -> Written {
     // SAFETY: `buffer` is readable and `out` writable for its length; a `&mut`
     // does not overlap.
-    unsafe { eventlog_listing(buffer.as_ptr(), buffer.len(), out.as_mut_ptr(), out.len()) }
+    unsafe {
+        eventlog_listing(
+            edition.number(),
+            buffer.as_ptr(),
+            buffer.len(),
+            out.as_mut_ptr(),
+            out.len(),
+        )
+    }
 }
 
 pub(crate) fn card_blocks(bytes: usize) -> usize {
@@ -383,6 +422,7 @@ pub(crate) fn windows_1252_from_utf16(units: &[u8], out: &mut [u8]) -> Written {
 #[cfg(test)]
 mod tests {
     use super::*;
+    use crate::Edition::{Ansi, Unicode};
     use crate::{Text, utf16};
     use std::vec;
     use std::vec::Vec;
@@ -411,7 +451,7 @@ mod tests {
             refusal: 0,
             length: LENGTH,
         };
-        assert_eq!(write(NUMBER, &EVENT, &mut record), written);
+        assert_eq!(write(Unicode, NUMBER, &EVENT, &mut record), written);
         record
     }
 
@@ -475,7 +515,10 @@ mod tests {
     fn steps_answer_the_place_asked_for() {
         let s = behind_8(&record());
         let end = 8 + LENGTH;
-        for (stepped, at) in [(step(&s, 8), 8), (step_back(&s, end), end)] {
+        for (stepped, at) in [
+            (step(Unicode, &s, 8), 8),
+            (step_back(Unicode, &s, end), end),
+        ] {
             let Stepped { refusal, field, .. } = stepped;
             assert_eq!((refusal, field, stepped.at), (0, 0, at));
             let found = stepped.found;
@@ -493,29 +536,29 @@ mod tests {
                 at,
                 found: Record::default(),
             };
-            assert_eq!(step(&s, 8), nothing(front, 8));
-            assert_eq!(step_back(&s, s.len()), nothing(rear, s.len()));
+            assert_eq!(step(Unicode, &s, 8), nothing(front, 8));
+            assert_eq!(step_back(Unicode, &s, s.len()), nothing(rear, s.len()));
             let refused = Refused {
                 refusal: number,
                 field: front,
             };
-            assert_eq!(refusal(&s, 8), refused);
-            assert_eq!(string_refusal(&s, 8, 0), refused);
-            assert_eq!(string(&s, 8, 0), Part::default());
+            assert_eq!(refusal(Unicode, &s, 8), refused);
+            assert_eq!(string_refusal(Unicode, &s, 8, 0), refused);
+            assert_eq!(string(Unicode, &s, 8, 0), Part::default());
         }
     }
 
     #[test]
     fn refused_strings_lie_nowhere() {
         let s = behind_8(&record());
-        assert_eq!(string(&s, 8, 0), Part { at: 96, len: 4 });
+        assert_eq!(string(Unicode, &s, 8, 0), Part { at: 96, len: 4 });
         for k in [1, 256, u32::MAX] {
             let none = Refused {
                 refusal: 17,
                 field: 0,
             };
-            assert_eq!(string_refusal(&s, 8, k), none);
-            assert_eq!(string(&s, 8, k), Part::default());
+            assert_eq!(string_refusal(Unicode, &s, 8, k), none);
+            assert_eq!(string(Unicode, &s, 8, k), Part::default());
         }
     }
 
@@ -528,17 +571,17 @@ mod tests {
             string: Part { at: 96, len: 4 },
             next: 102,
         };
-        assert_eq!(next_string(&s, run, 96), found);
+        assert_eq!(next_string(Unicode, &s, run, 96), found);
         let nothing = |next| NextString {
             refusal: 17,
             string: Part::default(),
             next,
         };
         for place in [0, 95, 101, 102, 103, s.len(), usize::MAX] {
-            assert_eq!(next_string(&s, run, place), nothing(place));
+            assert_eq!(next_string(Unicode, &s, run, place), nothing(place));
         }
         for (at, len) in [(96, 5), (96, s.len() - 95), (96, usize::MAX), (96, 0)] {
-            assert_eq!(next_string(&s, Part { at, len }, 96), nothing(96));
+            assert_eq!(next_string(Unicode, &s, Part { at, len }, 96), nothing(96));
         }
     }
 
@@ -551,13 +594,16 @@ mod tests {
             field,
             at,
         };
-        assert_eq!(walk(&s), walked(2, 0, 0, s.len()));
-        assert_eq!(walk_back(&s), walked(2, 0, 0, 0));
+        assert_eq!(walk(Unicode, &s), walked(2, 0, 0, s.len()));
+        assert_eq!(walk_back(Unicode, &s), walked(2, 0, 0, 0));
         for (refusal, [front, rear], record) in refused_records().into_iter().skip(1) {
             let behind = [&s, &record[..]].concat();
-            assert_eq!(walk(&behind), walked(2, refusal, front, s.len()));
+            assert_eq!(walk(Unicode, &behind), walked(2, refusal, front, s.len()));
             let before = [&record[..], &s].concat();
-            assert_eq!(walk_back(&before), walked(2, refusal, rear, LENGTH));
+            assert_eq!(
+                walk_back(Unicode, &before),
+                walked(2, refusal, rear, LENGTH)
+            );
         }
     }
 
@@ -566,12 +612,15 @@ mod tests {
         let refused = |refusal| Written { refusal, length: 0 };
         let mut out = [0xEE; 200];
         for (refusal, event) in refused_events() {
-            assert_eq!(write(NUMBER, &event, &mut out), refused(refusal));
+            assert_eq!(write(Unicode, NUMBER, &event, &mut out), refused(refusal));
         }
-        assert_eq!(write(NUMBER, &EVENT, &mut out[..LENGTH - 1]), refused(15));
+        assert_eq!(
+            write(Unicode, NUMBER, &EVENT, &mut out[..LENGTH - 1]),
+            refused(15)
+        );
         let log = record();
-        let text = listing(&log, &mut [0; 200]).length;
-        assert_eq!(listing(&log, &mut out[..text - 1]), refused(15));
+        let text = listing(Unicode, &log, &mut [0; 200]).length;
+        assert_eq!(listing(Unicode, &log, &mut out[..text - 1]), refused(15));
         assert_eq!(out, [0xEE; 200]);
     }
 
@@ -593,7 +642,7 @@ mod tests {
                 field,
                 used,
             };
-            assert_eq!(append(&mut log, used, &EVENT), refused);
+            assert_eq!(append(Unicode, &mut log, used, &EVENT), refused);
         }
         for (refusal, event) in refused_events() {
             for used in [0, LENGTH] {
@@ -602,7 +651,7 @@ mod tests {
                     field: 0,
                     used,
                 };
-                assert_eq!(append(&mut log, used, &event), refused);
+                assert_eq!(append(Unicode, &mut log, used, &event), refused);
             }
         }
         assert_eq!(log, old);
@@ -617,7 +666,7 @@ mod tests {
                 field,
                 used,
             };
-            assert_eq!(append(&mut record.clone(), used, &EVENT), refused);
+            assert_eq!(append(Unicode, &mut record.clone(), used, &EVENT), refused);
         }
     }
 
@@ -646,14 +695,17 @@ mod tests {
                 needed,
                 handle,
             };
-            assert_eq!(read(handle, log, flags, number, size, &mut out), refused);
+            assert_eq!(
+                read(Unicode, handle, log, flags, number, size, &mut out),
+                refused
+            );
         }
         assert_eq!(out, [0xEE; 208]);
     }
 
     #[test]
     fn a_read_needs_nothing() {
-        let read = read(fresh(), &record(), 5, 0, LENGTH, &mut [0; LENGTH]);
+        let read = read(Unicode, fresh(), &record(), 5, 0, LENGTH, &mut [0; LENGTH]);
         let handle = Handle {
             kind: 1,
             boundary: LENGTH,
@@ -667,22 +719,65 @@ mod tests {
         assert_eq!(read, expected);
     }
 
+    /// Sample T in ANSI, and what each call answers of it in the other edition.
+    #[test]
+    fn every_call_hands_the_edition_on() {
+        let event = Event {
+            source_name: Text::new(b"Scale"),
+            computer_name: Text::new(b"T1"),
+            strings: b"OK\0",
+            ..EVENT
+        };
+        let (length, end) = (92, 2 * 92);
+        let mut log = vec![0; end];
+        let written = write(Ansi, NUMBER, &event, &mut log);
+        assert_eq!((written.refusal, written.length), (0, length));
+        assert_eq!(write(Unicode, NUMBER, &event, &mut [0; 200]).refusal, 9);
+        assert_eq!(append(Unicode, &mut log, length, &event).refusal, 14);
+        let appended = append(Ansi, &mut log, length, &event);
+        assert_eq!((appended.refusal, appended.used), (0, end));
+
+        let run = Part { at: 80, len: 3 };
+        for (edition, number) in [(Ansi, 0), (Unicode, 12)] {
+            assert_eq!(step(edition, &log, 0).refusal, number);
+            assert_eq!(step_back(edition, &log, end).refusal, number);
+            assert_eq!(refusal(edition, &log, length).refusal, number);
+            assert_eq!(string_refusal(edition, &log, 0, 0).refusal, number);
+            assert_eq!(walk(edition, &log).refusal, number);
+            assert_eq!(walk_back(edition, &log).refusal, number);
+            let none = if number == 0 { 0 } else { 17 };
+            assert_eq!(next_string(edition, &log, run, run.at).refusal, none);
+            let status = if number == 0 { 0 } else { 0xC000_018E };
+            let answer = read(edition, fresh(), &log, 5, 0, end, &mut vec![0; end]);
+            assert_eq!(answer.status, status);
+            // "records 2", or "refused 12".
+            let mut text = [0; 200];
+            assert_eq!(listing(edition, &log, &mut text).refusal, 0);
+            assert_eq!(text[3], if number == 0 { b'o' } else { b'u' });
+        }
+        assert_eq!(string(Ansi, &log, 0, 0), Part { at: 80, len: 2 });
+        assert_eq!(string(Unicode, &log, 0, 0), Part::default());
+    }
+
     #[test]
     fn every_kind_but_0_is_a_boundary() {
         assert_eq!(fresh().kind, 0);
         for kind in [1, 2, 7, u32::MAX] {
             let past = Handle { kind, boundary: 1 };
-            let answer = read(past, &[], 5, 0, 0, &mut []);
+            let answer = read(Unicode, past, &[], 5, 0, 0, &mut []);
             assert_eq!((answer.status, answer.handle), (0xC000_0008, past));
             let end = Handle { kind, boundary: 0 };
-            assert_eq!(read(end, &[], 5, 0, 0, &mut []).status, 0xC000_0011);
+            assert_eq!(
+                read(Unicode, end, &[], 5, 0, 0, &mut []).status,
+                0xC000_0011
+            );
         }
         // A fresh handle's boundary is not looked at.
         let fresh = Handle {
             kind: 0,
             boundary: 9,
         };
-        let answer = read(fresh, &[], 5, 0, 0, &mut []);
+        let answer = read(Unicode, fresh, &[], 5, 0, 0, &mut []);
         assert_eq!((answer.status, answer.handle), (0xC000_0011, fresh));
     }
 }

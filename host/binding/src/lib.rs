@@ -1,7 +1,8 @@
-//! Windows event records (EVENTLOGRECORD of MS-EVEN 2.2.3), Unicode only: a
+//! Windows event records (EVENTLOGRECORD of MS-EVEN 2.2.3), Unicode and ANSI: a
 //! safe binding of the proved library `libeventlog.a`.
 //!
-//! Any bytes, places, numbers and handles may be given to any call. Every part
+//! The caller says which [`Edition`] the records have, or are to have. Any bytes,
+//! places, numbers and handles may be given to any call. Every part
 //! handed back borrows the caller's bytes; nothing is copied but to an output
 //! that the caller lends, and nothing is allocated. What can be refused answers
 //! an error that says why: [`Refusal`] (or [`BadRecord`] and [`StoppedWalk`],
@@ -9,7 +10,7 @@
 //! A refusal leaves every output as it was.
 //!
 //! ```
-//! use eventlog::{append, event_type, records, utf16, Event};
+//! use eventlog::{append, event_type, records, utf16, Edition::Unicode, Event};
 //!
 //! let event = Event {
 //!     event_id: 300,
@@ -20,9 +21,9 @@
 //!     ..Event::default()
 //! };
 //! let mut log = [0; 1000];
-//! let used = append(&mut log, 0, &event)?;
-//! let used = append(&mut log, used, &event)?;
-//! for (record, number) in records(&log[..used]).zip([1, 2]) {
+//! let used = append(Unicode, &mut log, 0, &event)?;
+//! let used = append(Unicode, &mut log, used, &event)?;
+//! for (record, number) in records(Unicode, &log[..used]).zip([1, 2]) {
 //!     let record = record?;
 //!     assert_eq!(record.record_number, number);
 //!     assert_eq!(record.event.source_name, "Scale");
@@ -40,6 +41,7 @@ extern crate std;
 
 pub mod card;
 mod constants;
+mod edition;
 #[allow(unsafe_code)]
 mod ffi;
 mod read;
@@ -54,6 +56,7 @@ pub use constants::{
     LISTING_ROOM, MAX_DATA, MAX_LENGTH, MAX_READ, MAX_SID, MAX_STRINGS, MIN_LENGTH, SIGNATURE,
     XML_FLAG, event_type, flags,
 };
+pub use edition::Edition;
 pub use read::{Batch, Direction, Handle, Place, ReadError, ReadKind, Status};
 pub use record::{BadRecord, Places, Record, refusal, step, step_back, string, string_refusal};
 pub use refusal::{Refusal, Refused};

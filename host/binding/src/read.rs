@@ -4,6 +4,7 @@ use core::error::Error;
 use core::fmt;
 
 use crate::constants::flags;
+use crate::edition::Edition;
 use crate::ffi;
 use crate::walk::{Records, records};
 
@@ -119,9 +120,9 @@ pub struct Handle {
 /// What a read starts from.
 ///
 /// ```
-/// use eventlog::{Direction, Handle, ReadKind, Status};
+/// use eventlog::{Direction, Edition::Unicode, Handle, ReadKind, Status};
 ///
-/// let sought = Handle::fresh().read(&[], ReadKind::Seek(7), Direction::Forwards, 0, &mut []);
+/// let sought = Handle::fresh().read(Unicode, &[], ReadKind::Seek(7), Direction::Forwards, 0, &mut []);
 /// assert_eq!(sought.unwrap_err().status, Status::InvalidParameter);
 /// ```
 #[derive(Clone, Copy, Debug, PartialEq, Eq, Hash)]
@@ -135,13 +136,13 @@ pub enum ReadKind {
 /// Which way a read goes.
 ///
 /// ```
-/// use eventlog::{append, Direction, Event, Handle, ReadKind};
+/// use eventlog::{append, Direction, Edition::Unicode, Event, Handle, ReadKind};
 ///
 /// let (mut log, mut out) = ([0; 128], [0; 64]);
-/// let used = append(&mut log, 0, &Event::default())?;
-/// append(&mut log, used, &Event::default())?;
+/// let used = append(Unicode, &mut log, 0, &Event::default())?;
+/// append(Unicode, &mut log, used, &Event::default())?;
 /// for (direction, number) in [(Direction::Forwards, 1), (Direction::Backwards, 2)] {
-///     let batch = Handle::fresh().read(&log, ReadKind::Sequential, direction, 64, &mut out)?;
+///     let batch = Handle::fresh().read(Unicode, &log, ReadKind::Sequential, direction, 64, &mut out)?;
 ///     assert_eq!(batch.records().next().unwrap()?.record_number, number);
 /// }
 /// # Ok::<(), Box<dyn std::error::Error>>(())
@@ -157,12 +158,12 @@ pub enum Direction {
 /// What a read hands back.
 ///
 /// ```
-/// use eventlog::{append, Batch, Direction, Event, Handle, Place, ReadKind};
+/// use eventlog::{append, Batch, Direction, Edition::Unicode, Event, Handle, Place, ReadKind};
 ///
 /// let (mut log, mut out) = ([0; 64], [0; 100]);
-/// append(&mut log, 0, &Event::default())?;
+/// append(Unicode, &mut log, 0, &Event::default())?;
 /// let Batch { bytes, handle, .. } =
-///     Handle::fresh().read(&log, ReadKind::Sequential, Direction::Forwards, 100, &mut out)?;
+///     Handle::fresh().read(Unicode, &log, ReadKind::Sequential, Direction::Forwards, 100, &mut out)?;
 /// assert_eq!(bytes, log);
 /// assert_eq!(handle.place, Place::Boundary(64));
 /// # Ok::<(), Box<dyn std::error::Error>>(())
@@ -170,6 +171,8 @@ pub enum Direction {
 #[non_exhaustive]
 #[derive(Debug, PartialEq, Eq)]
 pub struct Batch<'o> {
+    /// What the records were read as.
+    pub edition: Edition,
     /// The records that were copied, one after another: the start of the output.
     pub bytes: &'o [u8],
     /// The handle for the next read.
@@ -180,28 +183,28 @@ impl<'o> Batch<'o> {
     /// The records that were copied, in the order of reading.
     ///
     /// ```
-    /// use eventlog::{append, Direction, Event, Handle, ReadKind};
+    /// use eventlog::{append, Direction, Edition::Unicode, Event, Handle, ReadKind};
     ///
     /// let (mut log, mut out) = ([0; 64], [0; 64]);
-    /// append(&mut log, 0, &Event::default())?;
+    /// append(Unicode, &mut log, 0, &Event::default())?;
     /// let kind = ReadKind::Sequential;
-    /// let batch = Handle::fresh().read(&log, kind, Direction::Forwards, 64, &mut out)?;
+    /// let batch = Handle::fresh().read(Unicode, &log, kind, Direction::Forwards, 64, &mut out)?;
     /// assert_eq!(batch.records().count(), 1);
     /// # Ok::<(), Box<dyn std::error::Error>>(())
     /// ```
     pub fn records(&self) -> Records<'o> {
-        records(self.bytes)
+        records(self.edition, self.bytes)
     }
 }
 
 /// What a refused read hands back; it leaves the output as it was.
 ///
 /// ```
-/// use eventlog::{append, Direction, Event, Handle, ReadKind, Status};
+/// use eventlog::{append, Direction, Edition::Unicode, Event, Handle, ReadKind, Status};
 ///
 /// let mut log = [0; 64];
-/// append(&mut log, 0, &Event::default())?;
-/// let refused = Handle::fresh().read(&log, ReadKind::Sequential, Direction::Forwards, 0, &mut []);
+/// append(Unicode, &mut log, 0, &Event::default())?;
+/// let refused = Handle::fresh().read(Unicode, &log, ReadKind::Sequential, Direction::Forwards, 0, &mut []);
 /// let error = refused.unwrap_err();
 /// assert_eq!(error.status, Status::BufferTooSmall { needed: 64 });
 /// assert_eq!(error.handle, Handle::fresh());
@@ -247,15 +250,15 @@ impl Handle {
     /// [`ReadError`] with the first status that applies, and this handle.
     ///
     /// ```
-    /// use eventlog::{append, Direction, Event, Handle, ReadKind, Status};
+    /// use eventlog::{append, Direction, Edition::Unicode, Event, Handle, ReadKind, Status};
     ///
     /// let (mut log, mut out) = ([0; 128], [0; 100]);
-    /// let used = append(&mut log, 0, &Event::default())?;
-    /// append(&mut log, used, &Event::default())?;
+    /// let used = append(Unicode, &mut log, 0, &Event::default())?;
+    /// append(Unicode, &mut log, used, &Event::default())?;
     /// let mut handle = Handle::fresh();
     /// let mut numbers = vec![];
     /// loop {
-    ///     match handle.read(&log, ReadKind::Sequential, Direction::Backwards, 100, &mut out) {
+    ///     match handle.read(Unicode, &log, ReadKind::Sequential, Direction::Backwards, 100, &mut out) {
     ///         Ok(batch) => {
     ///             for record in batch.records() {
     ///                 numbers.push(record?.record_number);
@@ -271,6 +274,7 @@ impl Handle {
     /// ```
     pub fn read<'o>(
         self,
+        edition: Edition,
         log: &[u8],
         kind: ReadKind,
         direction: Direction,
@@ -285,7 +289,7 @@ impl Handle {
             ReadKind::Sequential => (flags::SEQUENTIAL, 0),
             ReadKind::Seek(number) => (flags::SEEK, number),
         };
-        self.read_with_flags(log, kind | direction, number, size, out)
+        self.read_with_flags(edition, log, kind | direction, number, size, out)
     }
 
     /// The same with the [`flags`] and the number of a request as they came, for
@@ -296,29 +300,31 @@ impl Handle {
     /// As [`read`](Handle::read).
     ///
     /// ```
-    /// use eventlog::{append, flags, Event, Handle, Status};
+    /// use eventlog::{append, flags, Edition::Unicode, Event, Handle, Status};
     ///
     /// let (mut log, mut out) = ([0; 64], [0; 64]);
-    /// append(&mut log, 0, &Event::default())?;
+    /// append(Unicode, &mut log, 0, &Event::default())?;
     /// let seek = flags::SEEK | flags::FORWARDS;
-    /// let batch = Handle::fresh().read_with_flags(&log, seek, 1, 64, &mut out)?;
+    /// let batch = Handle::fresh().read_with_flags(Unicode, &log, seek, 1, 64, &mut out)?;
     /// assert_eq!(batch.bytes.len(), 64);
-    /// let error = batch.handle.read_with_flags(&log, 0, 1, 64, &mut out).unwrap_err();
+    /// let error = batch.handle.read_with_flags(Unicode, &log, 0, 1, 64, &mut out).unwrap_err();
     /// assert_eq!(error.status, Status::InvalidParameter);
     /// # Ok::<(), Box<dyn std::error::Error>>(())
     /// ```
     pub fn read_with_flags<'o>(
         self,
+        edition: Edition,
         log: &[u8],
         flags: u32,
         number: u32,
         size: usize,
         out: &'o mut [u8],
     ) -> Result<Batch<'o>, ReadError> {
-        let answer = ffi::read(self.into(), log, flags, number, size, out);
+        let answer = ffi::read(edition, self.into(), log, flags, number, size, out);
         let handle = answer.handle.into();
         match Status::from_code(answer.status, answer.needed) {
             None => Ok(Batch {
+                edition,
                 bytes: &out[..answer.read],
                 handle,
             }),

@@ -3,6 +3,7 @@
 use core::error::Error;
 use core::fmt;
 
+use crate::edition::Edition;
 use crate::ffi::{self, Part, Stepped};
 use crate::refusal::{Refusal, Refused};
 use crate::text::{Strings, Text};
@@ -12,13 +13,13 @@ use crate::write::Event;
 /// where its parts lie. The parts are the buffer's own bytes.
 ///
 /// ```
-/// use eventlog::{step, utf16, write, Event};
+/// use eventlog::{step, utf16, write, Edition::Unicode, Event};
 ///
 /// let event = Event { source_name: utf16!("Scale"), event_data: &[1, 2, 3], ..Event::default() };
 /// let mut buffer = [0; 100];
-/// let length = write(7, &event, &mut buffer)?;
+/// let length = write(Unicode, 7, &event, &mut buffer)?;
 ///
-/// let record = step(&buffer, 0)?;
+/// let record = step(Unicode, &buffer, 0)?;
 /// assert_eq!((record.start, record.length, record.record_number), (0, length, 7));
 /// assert_eq!(record.event, event);
 /// # Ok::<(), Box<dyn std::error::Error>>(())
@@ -26,6 +27,8 @@ use crate::write::Event;
 #[non_exhaustive]
 #[derive(Clone, Copy, Debug, PartialEq, Eq)]
 pub struct Record<'a> {
+    /// What it was read as.
+    pub edition: Edition,
     /// Where the record starts in the buffer.
     pub start: usize,
     /// Length, the whole record in bytes.
@@ -43,11 +46,11 @@ pub struct Record<'a> {
 /// where the order would put it.
 ///
 /// ```
-/// use eventlog::{step, write, Event};
+/// use eventlog::{step, write, Edition::Unicode, Event};
 ///
 /// let mut buffer = [0; 64];
-/// write(7, &Event::default(), &mut buffer)?;
-/// let places = step(&buffer, 0)?.places;
+/// write(Unicode, 7, &Event::default(), &mut buffer)?;
+/// let places = step(Unicode, &buffer, 0)?.places;
 /// assert_eq!((places.source_name, places.computer_name, places.sid), (56, 58, 60));
 /// # Ok::<(), Box<dyn std::error::Error>>(())
 /// ```
@@ -70,9 +73,9 @@ pub struct Places {
 /// for: the start in [`step`], the end in [`step_back`].
 ///
 /// ```
-/// use eventlog::{step, Refusal};
+/// use eventlog::{step, Edition::Unicode, Refusal};
 ///
-/// let refused = step(&[0; 64], 1).unwrap_err();
+/// let refused = step(Unicode, &[0; 64], 1).unwrap_err();
 /// assert_eq!((refused.refusal, refused.at), (Refusal::Place, 1));
 /// let text = "refused 1 at 1, field 0: the place is past the end, or too few bytes stand there";
 /// assert_eq!(refused.to_string(), text);
@@ -103,17 +106,17 @@ impl<'a> Record<'a> {
     /// The strings, each without its zero unit.
     ///
     /// ```
-    /// use eventlog::{step, utf16, write, Event};
+    /// use eventlog::{step, utf16, write, Edition::Unicode, Event};
     ///
     /// let strings = utf16!("first\0second\0").as_bytes();
     /// let event = Event { num_strings: 2, strings, ..Event::default() };
     /// let mut buffer = [0; 100];
-    /// write(1, &event, &mut buffer)?;
-    /// assert!(step(&buffer, 0)?.strings().eq(["first", "second"]));
+    /// write(Unicode, 1, &event, &mut buffer)?;
+    /// assert!(step(Unicode, &buffer, 0)?.strings().eq(["first", "second"]));
     /// # Ok::<(), Box<dyn std::error::Error>>(())
     /// ```
     pub fn strings(&self) -> Strings<'a> {
-        Strings::new(self.event.strings)
+        Strings::new(self.edition, self.event.strings)
     }
 
     /// String `k`, counted from 0, without its zero unit. The step that read the
@@ -124,13 +127,13 @@ impl<'a> Record<'a> {
     /// [`Refusal::NoString`], where the record has no such string.
     ///
     /// ```
-    /// use eventlog::{step, utf16, write, Event, Refusal};
+    /// use eventlog::{step, utf16, write, Edition::Unicode, Event, Refusal};
     ///
     /// let strings = utf16!("first\0second\0").as_bytes();
     /// let event = Event { num_strings: 2, strings, ..Event::default() };
     /// let mut buffer = [0; 100];
-    /// write(1, &event, &mut buffer)?;
-    /// let record = step(&buffer, 0)?;
+    /// write(Unicode, 1, &event, &mut buffer)?;
+    /// let record = step(Unicode, &buffer, 0)?;
     /// assert_eq!(record.string(1)?, "second");
     /// assert_eq!(record.string(2), Err(Refusal::NoString));
     /// # Ok::<(), Box<dyn std::error::Error>>(())
@@ -147,16 +150,16 @@ impl<'a> Record<'a> {
 /// [`BadRecord`] with the first refusal that applies, and `at`.
 ///
 /// ```
-/// use eventlog::{step, write, Event, Refusal};
+/// use eventlog::{step, write, Edition::Unicode, Event, Refusal};
 ///
 /// let mut buffer = [0; 100];
-/// let length = write(7, &Event::default(), &mut buffer[8..])?;
-/// assert_eq!(step(&buffer, 8)?.length, length);
-/// assert_eq!(step(&buffer, 9).unwrap_err().refusal, Refusal::Length);
+/// let length = write(Unicode, 7, &Event::default(), &mut buffer[8..])?;
+/// assert_eq!(step(Unicode, &buffer, 8)?.length, length);
+/// assert_eq!(step(Unicode, &buffer, 9).unwrap_err().refusal, Refusal::Length);
 /// # Ok::<(), Box<dyn std::error::Error>>(())
 /// ```
-pub fn step(buffer: &[u8], at: usize) -> Result<Record<'_>, BadRecord> {
-    record(buffer, &ffi::step(buffer, at))
+pub fn step(edition: Edition, buffer: &[u8], at: usize) -> Result<Record<'_>, BadRecord> {
+    record(edition, buffer, &ffi::step(edition, buffer, at))
 }
 
 /// Reads the record that ends at `end`.
@@ -166,32 +169,32 @@ pub fn step(buffer: &[u8], at: usize) -> Result<Record<'_>, BadRecord> {
 /// [`BadRecord`] with the first refusal that applies, and `end`.
 ///
 /// ```
-/// use eventlog::{step, step_back, write, Event};
+/// use eventlog::{step, step_back, write, Edition::Unicode, Event};
 ///
 /// let mut buffer = [0; 100];
-/// let length = write(7, &Event::default(), &mut buffer)?;
-/// assert_eq!(step_back(&buffer, length), step(&buffer, 0));
+/// let length = write(Unicode, 7, &Event::default(), &mut buffer)?;
+/// assert_eq!(step_back(Unicode, &buffer, length), step(Unicode, &buffer, 0));
 /// # Ok::<(), eventlog::Refusal>(())
 /// ```
-pub fn step_back(buffer: &[u8], end: usize) -> Result<Record<'_>, BadRecord> {
-    record(buffer, &ffi::step_back(buffer, end))
+pub fn step_back(edition: Edition, buffer: &[u8], end: usize) -> Result<Record<'_>, BadRecord> {
+    record(edition, buffer, &ffi::step_back(edition, buffer, end))
 }
 
 /// Why the record that starts at `at` is refused, if it is. This costs less
 /// than a [`step`], which looks for the parts a second time.
 ///
 /// ```
-/// use eventlog::{refusal, write, Event, Refusal};
+/// use eventlog::{refusal, write, Edition::Unicode, Event, Refusal};
 ///
 /// let mut buffer = [0; 64];
-/// write(7, &Event::default(), &mut buffer)?;
-/// assert_eq!(refusal(&buffer, 0), None);
-/// assert_eq!(refusal(&buffer[..63], 0).unwrap().refusal, Refusal::Place);
+/// write(Unicode, 7, &Event::default(), &mut buffer)?;
+/// assert_eq!(refusal(Unicode, &buffer, 0), None);
+/// assert_eq!(refusal(Unicode, &buffer[..63], 0).unwrap().refusal, Refusal::Place);
 /// # Ok::<(), eventlog::Refusal>(())
 /// ```
 #[must_use]
-pub fn refusal(buffer: &[u8], at: usize) -> Option<Refused> {
-    let refused = ffi::refusal(buffer, at);
+pub fn refusal(edition: Edition, buffer: &[u8], at: usize) -> Option<Refused> {
+    let refused = ffi::refusal(edition, buffer, at);
     Refused::from_numbers(refused.refusal, refused.field)
 }
 
@@ -204,34 +207,41 @@ pub fn refusal(buffer: &[u8], at: usize) -> Option<Refused> {
 /// The record's refusal, or [`Refusal::NoString`].
 ///
 /// ```
-/// use eventlog::{string, utf16, write, Event, Refusal};
+/// use eventlog::{string, utf16, write, Edition::Unicode, Event, Refusal};
 ///
 /// let event = Event { num_strings: 1, strings: utf16!("OK\0").as_bytes(), ..Event::default() };
 /// let mut buffer = [0; 100];
-/// write(7, &event, &mut buffer)?;
-/// assert_eq!(string(&buffer, 0, 0)?, "OK");
-/// assert_eq!(string(&buffer, 0, 1).unwrap_err().refusal, Refusal::NoString);
-/// assert_eq!(string(&buffer, 1, 0).unwrap_err().refusal, Refusal::Length);
+/// write(Unicode, 7, &event, &mut buffer)?;
+/// assert_eq!(string(Unicode, &buffer, 0, 0)?, "OK");
+/// assert_eq!(string(Unicode, &buffer, 0, 1).unwrap_err().refusal, Refusal::NoString);
+/// assert_eq!(string(Unicode, &buffer, 1, 0).unwrap_err().refusal, Refusal::Length);
 /// # Ok::<(), Box<dyn std::error::Error>>(())
 /// ```
-pub fn string(buffer: &[u8], at: usize, k: u32) -> Result<Text<'_>, Refused> {
-    string_refusal(buffer, at, k).map_or(Ok(()), Err)?;
-    Ok(Text::new(slice(buffer, ffi::string(buffer, at, k))))
+pub fn string(edition: Edition, buffer: &[u8], at: usize, k: u32) -> Result<Text<'_>, Refused> {
+    string_refusal(edition, buffer, at, k).map_or(Ok(()), Err)?;
+    Ok(Text::new(slice(
+        buffer,
+        ffi::string(edition, buffer, at, k),
+    )))
 }
 
 /// Why string `k` of the record that starts at `at` is refused, if it is.
 ///
 /// ```
-/// use eventlog::{string_refusal, Refusal};
-/// assert_eq!(string_refusal(&[], 0, 0).unwrap().refusal, Refusal::Place);
+/// use eventlog::{string_refusal, Edition::Unicode, Refusal};
+/// assert_eq!(string_refusal(Unicode, &[], 0, 0).unwrap().refusal, Refusal::Place);
 /// ```
 #[must_use]
-pub fn string_refusal(buffer: &[u8], at: usize, k: u32) -> Option<Refused> {
-    let refused = ffi::string_refusal(buffer, at, k);
+pub fn string_refusal(edition: Edition, buffer: &[u8], at: usize, k: u32) -> Option<Refused> {
+    let refused = ffi::string_refusal(edition, buffer, at, k);
     Refused::from_numbers(refused.refusal, refused.field)
 }
 
-fn record<'a>(buffer: &'a [u8], stepped: &Stepped) -> Result<Record<'a>, BadRecord> {
+fn record<'a>(
+    edition: Edition,
+    buffer: &'a [u8],
+    stepped: &Stepped,
+) -> Result<Record<'a>, BadRecord> {
     let Stepped {
         refusal,
         field,
@@ -245,6 +255,7 @@ fn record<'a>(buffer: &'a [u8], stepped: &Stepped) -> Result<Record<'a>, BadReco
     })?;
     let fields = found.fields;
     Ok(Record {
+        edition,
         start: found.start,
         length: found.length,
         record_number: fields.record_number,

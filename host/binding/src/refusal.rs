@@ -7,9 +7,9 @@ use core::fmt;
 /// in plain words.
 ///
 /// ```
-/// use eventlog::{refusal, Refusal};
+/// use eventlog::{refusal, Edition::Unicode, Refusal};
 ///
-/// let refused = refusal(&[], 0).unwrap();
+/// let refused = refusal(Unicode, &[], 0).unwrap();
 /// assert_eq!(refused.refusal, Refusal::Place);
 /// assert_eq!(Refusal::Length2.to_string(), "Length and Length2 differ");
 /// ```
@@ -151,12 +151,12 @@ impl Error for Refusal {}
 /// A refusal of a record, and the field that failed.
 ///
 /// ```
-/// use eventlog::{refusal, write, Event};
+/// use eventlog::{refusal, write, Edition::Unicode, Event};
 ///
 /// let mut record = [0; 64];
-/// write(7, &Event::default(), &mut record)?;
+/// write(Unicode, 7, &Event::default(), &mut record)?;
 /// record[24] = 3;
-/// let refused = refusal(&record, 0).unwrap();
+/// let refused = refusal(Unicode, &record, 0).unwrap();
 /// assert_eq!(refused.field, 24);
 /// assert_eq!(refused.to_string(), "refused 6, field 24: the event type is none of the six");
 /// # Ok::<(), eventlog::Refusal>(())

@@ -1,17 +1,22 @@
-//! Texts of UTF-16 units, little-endian, as they lie in a record.
+//! Texts as they lie in a record: their bytes, and what they show as UTF-16.
 
 use core::char::{DecodeUtf16, REPLACEMENT_CHARACTER, decode_utf16};
 use core::fmt::{self, Write};
 use core::iter::FusedIterator;
 use core::slice::Iter;
 
+use crate::edition::Edition;
 use crate::ffi::{self, Part};
 use crate::record::slice;
 use crate::refusal::Refusal;
 
-/// A name or a string, as the bytes of its UTF-16 units, little-endian. The
-/// library does not judge units: a text may hold half of a surrogate pair. As
-/// text it is shown with U+FFFD in the place of such a unit.
+/// A name or a string, as its bytes. Those of [`Edition::Unicode`] are UTF-16
+/// units, little-endian. The library does not judge units: a text may hold half
+/// of a surrogate pair. As text it is shown with U+FFFD in the place of such a
+/// unit.
+///
+/// A text of [`Edition::Ansi`] is for [`as_bytes`](Text::as_bytes) alone: all that
+/// shows units or characters takes the bytes for UTF-16.
 ///
 /// ```
 /// use eventlog::Text;
@@ -24,8 +29,8 @@ use crate::refusal::Refusal;
 pub struct Text<'a>(&'a [u8]);
 
 impl<'a> Text<'a> {
-    /// The text with these bytes. The last one of an odd number of bytes is no
-    /// unit; writing refuses such a name.
+    /// The text with these bytes. In UTF-16 the last one of an odd number of bytes
+    /// is no unit; writing refuses such a name in [`Edition::Unicode`].
     ///
     /// ```
     /// use eventlog::Text;
@@ -36,10 +41,11 @@ impl<'a> Text<'a> {
         Text(bytes)
     }
 
-    /// The bytes.
+    /// The bytes, of either edition.
     ///
     /// ```
     /// assert_eq!(eventlog::utf16!("OK").as_bytes(), b"O\0K\0");
+    /// assert_eq!(eventlog::Text::new(b"OK").as_bytes(), b"OK");
     /// ```
     #[must_use]
     pub const fn as_bytes(self) -> &'a [u8] {
@@ -147,9 +153,9 @@ impl FusedIterator for Units<'_> {}
 /// [`Record::strings`](crate::Record::strings).
 ///
 /// ```
-/// use eventlog::{utf16, Strings};
+/// use eventlog::{utf16, Edition::Unicode, Strings};
 ///
-/// let mut strings = Strings::new(utf16!("first\0\0not ended").as_bytes());
+/// let mut strings = Strings::new(Unicode, utf16!("first\0\0not ended").as_bytes());
 /// assert_eq!(strings.next().unwrap(), "first");
 /// assert_eq!(strings.next().unwrap(), "");
 /// assert_eq!(strings.next(), None);
@@ -157,6 +163,7 @@ impl FusedIterator for Units<'_> {}
 #[derive(Clone, Debug)]
 #[must_use = "an iterator does nothing until it is asked for items"]
 pub struct Strings<'a> {
+    edition: Edition,
     run: &'a [u8],
     place: usize,
 }
@@ -165,10 +172,16 @@ impl<'a> Strings<'a> {
     /// The strings of a run.
     ///
     /// ```
-    /// assert_eq!(eventlog::Strings::new(b"O\0K\0\0\0").count(), 1);
+    /// use eventlog::{Edition, Strings};
+    /// assert_eq!(Strings::new(Edition::Unicode, b"O\0K\0\0\0").count(), 1);
+    /// assert_eq!(Strings::new(Edition::Ansi, b"O\0K\0\0\0").count(), 4);
     /// ```
-    pub const fn new(run: &'a [u8]) -> Self {
-        Strings { run, place: 0 }
+    pub const fn new(edition: Edition, run: &'a [u8]) -> Self {
+        Strings {
+            edition,
+            run,
+            place: 0,
+        }
     }
 }
 
@@ -180,13 +193,14 @@ impl<'a> Iterator for Strings<'a> {
             at: 0,
             len: self.run.len(),
         };
-        let (string, next) = next_string(self.run, run, self.place).ok()?;
+        let (string, next) = next_string(self.edition, self.run, run, self.place).ok()?;
         self.place = next;
         Some(string)
     }
 
     fn size_hint(&self) -> (usize, Option<usize>) {
-        (0, Some((self.run.len() - self.place) / 2))
+        let left = self.run.len() - self.place;
+        (0, Some(left / self.edition.width()))
     }
 }
 
@@ -218,19 +232,24 @@ pub struct Run {
 /// buffer.
 ///
 /// ```
-/// use eventlog::{next_string, Refusal, Run};
+/// use eventlog::{next_string, Edition::Unicode, Refusal, Run};
 ///
 /// let (buffer, run) = (b"..A\0\0\0\0\0..", Run { at: 2, len: 6 });
-/// let (first, next) = next_string(buffer, run, run.at)?;
+/// let (first, next) = next_string(Unicode, buffer, run, run.at)?;
 /// assert_eq!((first.as_bytes(), next), (&b"A\0"[..], 6));
-/// let (second, next) = next_string(buffer, run, next)?;
+/// let (second, next) = next_string(Unicode, buffer, run, next)?;
 /// assert_eq!((second.as_bytes(), next), (&b""[..], 8));
-/// assert_eq!(next_string(buffer, run, next), Err(Refusal::NoString));
+/// assert_eq!(next_string(Unicode, buffer, run, next), Err(Refusal::NoString));
 /// # Ok::<(), Refusal>(())
 /// ```
-pub fn next_string(buffer: &[u8], run: Run, place: usize) -> Result<(Text<'_>, usize), Refusal> {
+pub fn next_string(
+    edition: Edition,
+    buffer: &[u8],
+    run: Run,
+    place: usize,
+) -> Result<(Text<'_>, usize), Refusal> {
     let Run { at, len } = run;
-    let found = ffi::next_string(buffer, Part { at, len }, place);
+    let found = ffi::next_string(edition, buffer, Part { at, len }, place);
     Refusal::unless(found.refusal, ())?;
     Ok((Text(slice(buffer, found.string)), found.next))
 }
@@ -313,6 +332,7 @@ const fn decode_utf8(bytes: &[u8], at: usize) -> (u32, usize) {
 #[cfg(test)]
 mod tests {
     use super::*;
+    use crate::Edition::{Ansi, Unicode};
     use std::format;
     use std::vec::Vec;
 
@@ -366,7 +386,11 @@ mod tests {
 
     #[test]
     fn strings_end_where_none_is_ended() {
-        let strings = |run| Strings::new(run).map(Text::as_bytes).collect::<Vec<_>>();
+        let strings = |run| {
+            Strings::new(Unicode, run)
+                .map(Text::as_bytes)
+                .collect::<Vec<_>>()
+        };
         assert_eq!(strings(b""), [b""; 0]);
         assert_eq!(strings(b"A\0"), [b""; 0]);
         assert_eq!(strings(b"A\0\0"), [b""; 0]);
@@ -374,8 +398,27 @@ mod tests {
         assert_eq!(strings(b"A\0\0\0B\0\0"), [b"A\0"]);
         // Zero bytes of two units are no zero unit.
         assert_eq!(strings(b"A\0\0B\0\0\0\0"), [&b"A\0\0B"[..], b""]);
-        let mut run = Strings::new(b"A\0\0\0");
+        let mut run = Strings::new(Unicode, b"A\0\0\0");
         assert_eq!(run.size_hint(), (0, Some(2)));
+        assert!(run.next().is_some() && run.next().is_none() && run.next().is_none());
+    }
+
+    #[test]
+    fn strings_of_bytes_end_at_a_zero_byte() {
+        let strings = |run| {
+            let strings = Strings::new(Ansi, run).map(Text::as_bytes);
+            strings.collect::<Vec<_>>()
+        };
+        assert_eq!(strings(b""), [b""; 0]);
+        assert_eq!(strings(b"A"), [b""; 0]);
+        assert_eq!(strings(b"\0"), [b""]);
+        assert_eq!(strings(b"A\0"), [b"A"]);
+        assert_eq!(strings(b"ABC\0\0D"), [&b"ABC"[..], b""]);
+        assert_eq!(strings(b"A\0\0BC\0"), [&b"A"[..], b"", b"BC"]);
+        let mut run = Strings::new(Ansi, b"A\0\0");
+        assert_eq!(run.size_hint(), (0, Some(3)));
+        assert_eq!(run.next().map(Text::as_bytes), Some(&b"A"[..]));
+        assert_eq!(run.size_hint(), (0, Some(1)));
         assert!(run.next().is_some() && run.next().is_none() && run.next().is_none());
     }
 }

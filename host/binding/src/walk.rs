@@ -5,6 +5,7 @@ use core::fmt;
 use core::iter::FusedIterator;
 
 use crate::constants::MIN_LENGTH;
+use crate::edition::Edition;
 use crate::ffi::{self, Walked};
 use crate::record::{BadRecord, Record, step, step_back};
 use crate::refusal::{Refusal, Refused};
@@ -12,9 +13,9 @@ use crate::refusal::{Refusal, Refused};
 /// Why a walk stopped before the batch was used up.
 ///
 /// ```
-/// use eventlog::{walk, Refusal};
+/// use eventlog::{walk, Edition::Unicode, Refusal};
 ///
-/// let stopped = walk(&[0; 64]).unwrap_err();
+/// let stopped = walk(Unicode, &[0; 64]).unwrap_err();
 /// assert_eq!((stopped.count, stopped.refusal, stopped.at), (0, Refusal::Length, 0));
 /// let text = "refused 2 at 0, field 0, after 0 records: Length is out of range or not a multiple of 4";
 /// assert_eq!(stopped.to_string(), text);
@@ -57,18 +58,18 @@ impl Error for StoppedWalk {}
 /// [`StoppedWalk`], where a record is refused.
 ///
 /// ```
-/// use eventlog::{append, walk, Event};
+/// use eventlog::{append, walk, Edition::Unicode, Event};
 ///
 /// let mut log = [0; 200];
-/// let used = append(&mut log, 0, &Event::default())?;
-/// let used = append(&mut log, used, &Event::default())?;
-/// assert_eq!(walk(&log[..used])?, 2);
-/// let stopped = walk(&log).unwrap_err();
+/// let used = append(Unicode, &mut log, 0, &Event::default())?;
+/// let used = append(Unicode, &mut log, used, &Event::default())?;
+/// assert_eq!(walk(Unicode, &log[..used])?, 2);
+/// let stopped = walk(Unicode, &log).unwrap_err();
 /// assert_eq!((stopped.count, stopped.at), (2, used));
 /// # Ok::<(), Box<dyn std::error::Error>>(())
 /// ```
-pub fn walk(buffer: &[u8]) -> Result<usize, StoppedWalk> {
-    counted(&ffi::walk(buffer))
+pub fn walk(edition: Edition, buffer: &[u8]) -> Result<usize, StoppedWalk> {
+    counted(&ffi::walk(edition, buffer))
 }
 
 /// Counts the records of a batch, from the rear. Where [`walk`] refuses, so
@@ -79,17 +80,17 @@ pub fn walk(buffer: &[u8]) -> Result<usize, StoppedWalk> {
 /// [`StoppedWalk`], where a record is refused.
 ///
 /// ```
-/// use eventlog::{append, walk_back, Event};
+/// use eventlog::{append, walk_back, Edition::Unicode, Event};
 ///
 /// let mut log = [0; 200];
-/// let used = append(&mut log, 0, &Event::default())?;
-/// assert_eq!(walk_back(&log[..used])?, 1);
-/// let stopped = walk_back(&log).unwrap_err();
+/// let used = append(Unicode, &mut log, 0, &Event::default())?;
+/// assert_eq!(walk_back(Unicode, &log[..used])?, 1);
+/// let stopped = walk_back(Unicode, &log).unwrap_err();
 /// assert_eq!((stopped.count, stopped.at), (0, log.len()));
 /// # Ok::<(), Box<dyn std::error::Error>>(())
 /// ```
-pub fn walk_back(buffer: &[u8]) -> Result<usize, StoppedWalk> {
-    counted(&ffi::walk_back(buffer))
+pub fn walk_back(edition: Edition, buffer: &[u8]) -> Result<usize, StoppedWalk> {
+    counted(&ffi::walk_back(edition, buffer))
 }
 
 fn counted(walked: &Walked) -> Result<usize, StoppedWalk> {
@@ -110,20 +111,21 @@ fn counted(walked: &Walked) -> Result<usize, StoppedWalk> {
 /// The records of a batch, from the front.
 ///
 /// ```
-/// use eventlog::{append, records, Event};
+/// use eventlog::{append, records, Edition::Unicode, Event};
 ///
 /// let mut log = [0; 200];
-/// let used = append(&mut log, 0, &Event::default())?;
-/// let used = append(&mut log, used, &Event::default())?;
+/// let used = append(Unicode, &mut log, 0, &Event::default())?;
+/// let used = append(Unicode, &mut log, used, &Event::default())?;
 /// let mut numbers = vec![];
-/// for record in records(&log[..used]) {
+/// for record in records(Unicode, &log[..used]) {
 ///     numbers.push(record?.record_number);
 /// }
 /// assert_eq!(numbers, [1, 2]);
 /// # Ok::<(), Box<dyn std::error::Error>>(())
 /// ```
-pub fn records(buffer: &[u8]) -> Records<'_> {
+pub fn records(edition: Edition, buffer: &[u8]) -> Records<'_> {
     Records {
+        edition,
         buffer,
         place: 0,
         stopped: false,
@@ -133,20 +135,21 @@ pub fn records(buffer: &[u8]) -> Records<'_> {
 /// The records of a batch, from the rear.
 ///
 /// ```
-/// use eventlog::{append, records_back, Event};
+/// use eventlog::{append, records_back, Edition::Unicode, Event};
 ///
 /// let mut log = [0; 200];
-/// let used = append(&mut log, 0, &Event::default())?;
-/// let used = append(&mut log, used, &Event::default())?;
+/// let used = append(Unicode, &mut log, 0, &Event::default())?;
+/// let used = append(Unicode, &mut log, used, &Event::default())?;
 /// let mut numbers = vec![];
-/// for record in records_back(&log[..used]) {
+/// for record in records_back(Unicode, &log[..used]) {
 ///     numbers.push(record?.record_number);
 /// }
 /// assert_eq!(numbers, [2, 1]);
 /// # Ok::<(), Box<dyn std::error::Error>>(())
 /// ```
-pub fn records_back(buffer: &[u8]) -> RecordsBack<'_> {
+pub fn records_back(edition: Edition, buffer: &[u8]) -> RecordsBack<'_> {
     RecordsBack {
+        edition,
         buffer,
         place: buffer.len(),
         stopped: false,
@@ -162,11 +165,11 @@ pub fn records_back(buffer: &[u8]) -> RecordsBack<'_> {
 /// iterator with two ends would answer both and end as if nothing was refused.
 ///
 /// ```
-/// use eventlog::{append, records, Event};
+/// use eventlog::{append, records, Edition::Unicode, Event};
 ///
 /// let mut log = [0; 200];
-/// let used = append(&mut log, 0, &Event::default())?;
-/// let mut records = records(&log);
+/// let used = append(Unicode, &mut log, 0, &Event::default())?;
+/// let mut records = records(Unicode, &log);
 /// assert!(records.next().is_some_and(|record| record.is_ok()));
 /// assert!(records.next().is_some_and(|record| record.is_err()));
 /// assert_eq!(records.next(), None);
@@ -175,6 +178,7 @@ pub fn records_back(buffer: &[u8]) -> RecordsBack<'_> {
 #[derive(Clone, Debug)]
 #[must_use = "an iterator does nothing until it is asked for items"]
 pub struct Records<'a> {
+    edition: Edition,
     buffer: &'a [u8],
     place: usize,
     stopped: bool,
@@ -185,11 +189,11 @@ impl Records<'_> {
     /// that was refused, at the end the buffer's length.
     ///
     /// ```
-    /// use eventlog::{append, records, Event};
+    /// use eventlog::{append, records, Edition::Unicode, Event};
     ///
     /// let mut log = [0; 200];
-    /// let used = append(&mut log, 0, &Event::default())?;
-    /// let mut records = records(&log);
+    /// let used = append(Unicode, &mut log, 0, &Event::default())?;
+    /// let mut records = records(Unicode, &log);
     /// records.by_ref().for_each(drop);
     /// assert_eq!(records.place(), used);
     /// # Ok::<(), eventlog::Refused>(())
@@ -207,7 +211,7 @@ impl<'a> Iterator for Records<'a> {
         if self.stopped || self.place >= self.buffer.len() {
             return None;
         }
-        let answer = step(self.buffer, self.place);
+        let answer = step(self.edition, self.buffer, self.place);
         match &answer {
             Ok(record) => self.place += record.length,
             Err(_) => self.stopped = true,
@@ -226,11 +230,11 @@ impl FusedIterator for Records<'_> {}
 /// refused; the refusal is the last item. Made by [`records_back`].
 ///
 /// ```
-/// use eventlog::{append, records_back, Event};
+/// use eventlog::{append, records_back, Edition::Unicode, Event};
 ///
 /// let mut log = [0; 200];
-/// let used = append(&mut log, 0, &Event::default())?;
-/// let mut records = records_back(&log[..used]);
+/// let used = append(Unicode, &mut log, 0, &Event::default())?;
+/// let mut records = records_back(Unicode, &log[..used]);
 /// assert!(records.next().is_some_and(|record| record.is_ok()));
 /// assert_eq!(records.next(), None);
 /// # Ok::<(), eventlog::Refused>(())
@@ -238,6 +242,7 @@ impl FusedIterator for Records<'_> {}
 #[derive(Clone, Debug)]
 #[must_use = "an iterator does nothing until it is asked for items"]
 pub struct RecordsBack<'a> {
+    edition: Edition,
     buffer: &'a [u8],
     place: usize,
     stopped: bool,
@@ -248,11 +253,11 @@ impl RecordsBack<'_> {
     /// the front 0.
     ///
     /// ```
-    /// use eventlog::{append, records_back, Event};
+    /// use eventlog::{append, records_back, Edition::Unicode, Event};
     ///
     /// let mut log = [0; 200];
-    /// let used = append(&mut log, 0, &Event::default())?;
-    /// let mut records = records_back(&log[..used]);
+    /// let used = append(Unicode, &mut log, 0, &Event::default())?;
+    /// let mut records = records_back(Unicode, &log[..used]);
     /// assert_eq!(records.place(), used);
     /// records.by_ref().for_each(drop);
     /// assert_eq!(records.place(), 0);
@@ -271,7 +276,7 @@ impl<'a> Iterator for RecordsBack<'a> {
         if self.stopped || self.place == 0 {
             return None;
         }
-        let answer = step_back(self.buffer, self.place);
+        let answer = step_back(self.edition, self.buffer, self.place);
         match &answer {
             Ok(record) => self.place = record.start,
             Err(_) => self.stopped = true,

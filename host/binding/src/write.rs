@@ -1,5 +1,6 @@
 //! Writing a record, appending one to a log, and the listing's text.
 
+use crate::edition::Edition;
 use crate::ffi;
 use crate::refusal::{Refusal, Refused};
 use crate::text::Text;
@@ -61,23 +62,29 @@ pub struct Event<'a> {
 /// [`Refusal::Output`]. Then `out` is left as it was.
 ///
 /// ```
-/// use eventlog::{step, write, Event, Refusal};
+/// use eventlog::{step, write, Edition::Unicode, Event, Refusal};
 ///
 /// let event = Event { event_id: 300, ..Event::default() };
 /// let mut out = [0; 100];
-/// let length = write(7, &event, &mut out)?;
-/// assert_eq!(step(&out, 0)?.event, event);
-/// assert_eq!(write(7, &event, &mut out[..length - 1]), Err(Refusal::Output));
+/// let length = write(Unicode, 7, &event, &mut out)?;
+/// assert_eq!(step(Unicode, &out, 0)?.event, event);
+/// assert_eq!(write(Unicode, 7, &event, &mut out[..length - 1]), Err(Refusal::Output));
 /// # Ok::<(), Box<dyn std::error::Error>>(())
 /// ```
-pub fn write(record_number: u32, event: &Event<'_>, out: &mut [u8]) -> Result<usize, Refusal> {
-    let written = ffi::write(record_number, event, out);
+pub fn write(
+    edition: Edition,
+    record_number: u32,
+    event: &Event<'_>,
+    out: &mut [u8],
+) -> Result<usize, Refusal> {
+    let written = ffi::write(edition, record_number, event, out);
     Refusal::unless(written.refusal, written.length)
 }
 
 /// Appends an event to the first `used` bytes of `log`, numbered one above the
 /// last record there, or 1 where there is none, and returns the new used
-/// length. After 4,294,967,295 comes 0.
+/// length. After 4,294,967,295 comes 0. The edition is that of the last record
+/// and of the new one.
 ///
 /// # Errors
 ///
@@ -87,25 +94,30 @@ pub fn write(record_number: u32, event: &Event<'_>, out: &mut [u8]) -> Result<us
 /// `log` is left as it was.
 ///
 /// ```
-/// use eventlog::{append, step_back, Event, Refusal};
+/// use eventlog::{append, step_back, Edition::Unicode, Event, Refusal};
 ///
 /// let mut log = [0; 150];
-/// let used = append(&mut log, 0, &Event::default())?;
-/// let used = append(&mut log, used, &Event::default())?;
-/// assert_eq!(step_back(&log, used)?.record_number, 2);
-/// let full = append(&mut log, used, &Event::default()).unwrap_err();
+/// let used = append(Unicode, &mut log, 0, &Event::default())?;
+/// let used = append(Unicode, &mut log, used, &Event::default())?;
+/// assert_eq!(step_back(Unicode, &log, used)?.record_number, 2);
+/// let full = append(Unicode, &mut log, used, &Event::default()).unwrap_err();
 /// assert_eq!(full.refusal, Refusal::Output);
 /// # Ok::<(), Box<dyn std::error::Error>>(())
 /// ```
-pub fn append(log: &mut [u8], used: usize, event: &Event<'_>) -> Result<usize, Refused> {
-    let appended = ffi::append(log, used, event);
+pub fn append(
+    edition: Edition,
+    log: &mut [u8],
+    used: usize,
+    event: &Event<'_>,
+) -> Result<usize, Refused> {
+    let appended = ffi::append(edition, log, used, event);
     Refused::unless(appended.refusal, appended.field, appended.used)
 }
 
 /// Writes the listing of a batch at the start of `out` and returns its text: a
 /// line for the number of records and one for each of them, with its start,
 /// Length and number; or only a line that tells the refusal, its place and the
-/// field that failed.
+/// field that failed. The listing program lists [`Edition::Unicode`].
 ///
 /// # Errors
 ///
@@ -114,18 +126,18 @@ pub fn append(log: &mut [u8], used: usize, event: &Event<'_>) -> Result<usize, R
 /// always enough.
 ///
 /// ```
-/// use eventlog::{listing, write, Event, Refusal};
+/// use eventlog::{listing, write, Edition::Unicode, Event, Refusal};
 ///
 /// let (mut batch, mut out) = ([0; 64], [0; 128]);
-/// write(7, &Event::default(), &mut batch)?;
-/// assert_eq!(listing(&batch, &mut out)?, "records 1\n0 64 7\n");
-/// assert_eq!(listing(&batch[..63], &mut out)?, "refused 1 at 0 field 0\n");
-/// assert_eq!(listing(&batch, &mut out[..17])?, "records 1\n0 64 7\n");
-/// assert_eq!(listing(&batch, &mut out[..16]), Err(Refusal::Output));
+/// write(Unicode, 7, &Event::default(), &mut batch)?;
+/// assert_eq!(listing(Unicode, &batch, &mut out)?, "records 1\n0 64 7\n");
+/// assert_eq!(listing(Unicode, &batch[..63], &mut out)?, "refused 1 at 0 field 0\n");
+/// assert_eq!(listing(Unicode, &batch, &mut out[..17])?, "records 1\n0 64 7\n");
+/// assert_eq!(listing(Unicode, &batch, &mut out[..16]), Err(Refusal::Output));
 /// # Ok::<(), Refusal>(())
 /// ```
-pub fn listing<'o>(buffer: &[u8], out: &'o mut [u8]) -> Result<&'o str, Refusal> {
-    let written = ffi::listing(buffer, out);
+pub fn listing<'o>(edition: Edition, buffer: &[u8], out: &'o mut [u8]) -> Result<&'o str, Refusal> {
+    let written = ffi::listing(edition, buffer, out);
     let length = Refusal::unless(written.refusal, written.length)?;
     Ok(ascii(&out[..length]))
 }

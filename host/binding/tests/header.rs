@@ -38,6 +38,8 @@ fn numbers() {
         ("CARD_PAYLOAD", limit(card::PAYLOAD)),
         ("MAX_CARD_BLOCKS", limit(card::MAX_BLOCKS)),
         ("MAX_CARD_LOG", limit(card::MAX_LOG)),
+        ("UNICODE", Edition::Unicode.number()),
+        ("ANSI", Edition::Ansi.number()),
         ("SIGNATURE", SIGNATURE),
         ("FLAGS_XML", u32::from(XML_FLAG)),
         ("SEQUENTIAL", flags::SEQUENTIAL),

@@ -1,7 +1,9 @@
-//! The bench samples through the binding.
+//! The bench samples through the binding, in Unicode.
 
+use eventlog::Edition::Unicode;
 use eventlog::*;
 
+#[allow(dead_code)]
 #[path = "../../samples.rs"]
 mod samples;
 
@@ -47,11 +49,11 @@ fn refused(answer: Result<Record, BadRecord>) -> (Refusal, usize) {
 #[test]
 fn read() {
     let log = s_t();
-    let s = step(&log, 0).unwrap();
+    let s = step(Unicode, &log, 0).unwrap();
     assert_eq!((s.start, s.length, s.record_number), (0, 64, S_NUMBER));
     assert_eq!(s.event, Event::default());
 
-    let t = step(&log, 64).unwrap();
+    let t = step(Unicode, &log, 64).unwrap();
     assert_eq!((t.start, t.length, t.record_number), (64, 104, T_NUMBER));
     assert_eq!(t.event, t_event());
     assert_eq!(t.event.source_name, "Scale");
@@ -66,22 +68,22 @@ fn read() {
     } = t.places;
     let places = [source_name, computer_name, sid, strings, event_data];
     assert_eq!(places, [56, 68, 76, 88, 94].map(|at| 64 + at));
-    assert_eq!(step_back(&log, 168), Ok(t));
-    assert_eq!(step_back(&log, 64), Ok(s));
+    assert_eq!(step_back(Unicode, &log, 168), Ok(t));
+    assert_eq!(step_back(Unicode, &log, 64), Ok(s));
 }
 
 #[test]
 fn strings() {
     let log = s_t();
-    assert_eq!(string(&log, 64, 0), Ok(Text::new(OK)));
-    assert_eq!(why(string(&log, 64, 1)), Err(Refusal::NoString));
-    assert_eq!(why(string(&log, 0, 0)), Err(Refusal::NoString));
-    assert_eq!(why(string(&log, 1, 0)), Err(Refusal::Length));
-    assert_eq!(string_refusal(&log, 64, 0), None);
-    let none = string_refusal(&log, 64, u32::MAX);
+    assert_eq!(string(Unicode, &log, 64, 0), Ok(Text::new(OK)));
+    assert_eq!(why(string(Unicode, &log, 64, 1)), Err(Refusal::NoString));
+    assert_eq!(why(string(Unicode, &log, 0, 0)), Err(Refusal::NoString));
+    assert_eq!(why(string(Unicode, &log, 1, 0)), Err(Refusal::Length));
+    assert_eq!(string_refusal(Unicode, &log, 64, 0), None);
+    let none = string_refusal(Unicode, &log, 64, u32::MAX);
     assert_eq!(told(none), Some((Refusal::NoString, 0)));
 
-    let [s, t] = [0, 64].map(|at| step(&log, at).unwrap());
+    let [s, t] = [0, 64].map(|at| step(Unicode, &log, at).unwrap());
     assert!(t.strings().eq(["OK"]) && s.strings().next().is_none());
     assert_eq!(t.string(0), Ok(Text::new(OK)));
     for (record, k) in [(t, 1), (t, u32::MAX), (s, 0)] {
@@ -108,59 +110,68 @@ fn refusals() {
         (12, 48, Refusal::Data, put(&T, 52, 95)),
         (13, 0, Refusal::Size, put(&T, 48, 2)),
     ] {
-        assert_eq!(refused(step(&bytes, 0)), (why, 0));
-        assert_eq!(told(refusal(&bytes, 0)), Some((why, field)));
-        assert_eq!(step(&bytes, 0).unwrap_err().field, field);
+        assert_eq!(refused(step(Unicode, &bytes, 0)), (why, 0));
+        assert_eq!(told(refusal(Unicode, &bytes, 0)), Some((why, field)));
+        assert_eq!(step(Unicode, &bytes, 0).unwrap_err().field, field);
         assert_eq!(why.number(), number);
     }
-    assert_eq!(refusal(&put(&T, 24, 16), 0), None);
-    assert_eq!(refusal(&put(&T, 31, 0x80), 0), None);
+    assert_eq!(refusal(Unicode, &put(&T, 24, 16), 0), None);
+    assert_eq!(refusal(Unicode, &put(&T, 31, 0x80), 0), None);
     for at in [65, usize::MAX] {
-        assert_eq!(refused(step(&S, at)), (Refusal::Place, at));
-        assert_eq!(refused(step_back(&S, at)), (Refusal::Place, at));
+        assert_eq!(refused(step(Unicode, &S, at)), (Refusal::Place, at));
+        assert_eq!(refused(step_back(Unicode, &S, at)), (Refusal::Place, at));
     }
 }
 
 #[test]
 fn walked_and_listed() {
     let log = s_t();
-    assert_eq!((walk(&log), walk_back(&log)), (Ok(2), Ok(2)));
-    assert_eq!((walk(&[]), walk_back(&[])), (Ok(0), Ok(0)));
-    let stopped = walk(&log[..167]).unwrap_err();
+    assert_eq!(
+        (walk(Unicode, &log), walk_back(Unicode, &log)),
+        (Ok(2), Ok(2))
+    );
+    assert_eq!(
+        (walk(Unicode, &[]), walk_back(Unicode, &[])),
+        (Ok(0), Ok(0))
+    );
+    let stopped = walk(Unicode, &log[..167]).unwrap_err();
     let why = (stopped.count, stopped.refusal, stopped.field, stopped.at);
     assert_eq!(why, (1, Refusal::CutShort, 0, 64));
-    let stopped = walk_back(&log[1..]).unwrap_err();
+    let stopped = walk_back(Unicode, &log[1..]).unwrap_err();
     let why = (stopped.count, stopped.refusal, stopped.field, stopped.at);
     assert_eq!(why, (1, Refusal::Place, 0, 63));
 
     let text = |s: &[u8]| {
         let mut out = vec![b'x'; s.len() + 64];
-        let text = listing(s, &mut out).unwrap().to_string();
+        let text = listing(Unicode, s, &mut out).unwrap().to_string();
         assert!(out[text.len()..].iter().all(|b| *b == b'x'));
         text
     };
     assert_eq!(text(&log), "records 2\n0 64 7\n64 104 8\n");
     assert_eq!(text(&log[..167]), "refused 3 at 64 field 0\n");
     assert_eq!(text(&[]), "records 0\n");
-    assert_eq!(listing(&log, &mut [0; 26]).map(str::len), Ok(26));
-    assert_eq!(listing(&log, &mut [0; 25]), Err(Refusal::Output));
+    assert_eq!(listing(Unicode, &log, &mut [0; 26]).map(str::len), Ok(26));
+    assert_eq!(listing(Unicode, &log, &mut [0; 25]), Err(Refusal::Output));
 }
 
 #[test]
 fn iterated() {
     let log = s_t();
-    let [s, t] = [0, 64].map(|at| step(&log, at));
-    assert!(records(&log).eq([s, t]) && records_back(&log).eq([t, s]));
+    let [s, t] = [0, 64].map(|at| step(Unicode, &log, at));
+    assert!(records(Unicode, &log).eq([s, t]) && records_back(Unicode, &log).eq([t, s]));
     assert_eq!(
-        (records(&[]).next(), records_back(&[]).next()),
+        (
+            records(Unicode, &[]).next(),
+            records_back(Unicode, &[]).next()
+        ),
         (None, None)
     );
 
     // A refusal is the last item, and the place stays where it was refused.
     let cut = &log[..167];
-    let mut front = records(cut);
+    let mut front = records(Unicode, cut);
     assert_eq!(front.size_hint(), (1, Some(3)));
-    assert_eq!(front.next(), Some(step(cut, 0)));
+    assert_eq!(front.next(), Some(step(Unicode, cut, 0)));
     assert_eq!(front.next().map(refused), Some((Refusal::CutShort, 64)));
     assert_eq!(
         (front.next(), front.next(), front.place()),
@@ -169,9 +180,9 @@ fn iterated() {
     assert_eq!(front.size_hint(), (0, Some(0)));
 
     let late = &log[1..];
-    let mut rear = records_back(late);
+    let mut rear = records_back(Unicode, late);
     assert_eq!((rear.place(), rear.size_hint()), (167, (1, Some(3))));
-    assert_eq!(rear.next(), Some(step(late, 63)));
+    assert_eq!(rear.next(), Some(step(Unicode, late, 63)));
     assert_eq!(rear.next().map(refused), Some((Refusal::Place, 63)));
     assert_eq!((rear.next(), rear.next(), rear.place()), (None, None, 63));
     assert_eq!(rear.size_hint(), (0, Some(0)));
@@ -187,39 +198,48 @@ fn ends_that_overlap() {
         time_written: 80,
         ..Event::default()
     };
-    assert_eq!(write(2, &event, &mut rear), Ok(64));
+    assert_eq!(write(Unicode, 2, &event, &mut rear), Ok(64));
     let mut front = [0; 80];
     let event = Event {
         event_data: &rear[..16],
         ..Event::default()
     };
-    assert_eq!(write(1, &event, &mut front), Ok(80));
+    assert_eq!(write(Unicode, 1, &event, &mut front), Ok(80));
     let both = [&front[..], &rear[20..]].concat();
-    let first = records(&both).next().unwrap().unwrap();
-    let last = records_back(&both).next().unwrap().unwrap();
+    let first = records(Unicode, &both).next().unwrap().unwrap();
+    let last = records_back(Unicode, &both).next().unwrap().unwrap();
     assert_eq!((first.length, last.start), (80, 60));
-    assert!(walk(&both).is_err() && walk_back(&both).is_err());
+    assert!(walk(Unicode, &both).is_err() && walk_back(Unicode, &both).is_err());
 }
 
 #[test]
 fn written_and_appended() {
     let mut out = [0xAA; 110];
-    assert_eq!(write(T_NUMBER, &t_event(), &mut out), Ok(104));
+    assert_eq!(write(Unicode, T_NUMBER, &t_event(), &mut out), Ok(104));
     assert_eq!((&out[..104], &out[104..]), (&T[..], &[0xAA; 6][..]));
-    let short = write(T_NUMBER, &t_event(), &mut [0; 103]);
+    let short = write(Unicode, T_NUMBER, &t_event(), &mut [0; 103]);
     assert_eq!(short, Err(Refusal::Output));
-    let none = write(S_NUMBER, &Event::default(), &mut []);
+    let none = write(Unicode, S_NUMBER, &Event::default(), &mut []);
     assert_eq!(none, Err(Refusal::Output));
 
     let mut log = [0; 200];
     log[..64].copy_from_slice(&S);
-    assert_eq!(append(&mut log, 64, &t_event()), Ok(168));
+    assert_eq!(append(Unicode, &mut log, 64, &t_event()), Ok(168));
     assert_eq!(log[..168], s_t());
-    assert_eq!(why(append(&mut log, 168, &t_event())), Err(Refusal::Output));
-    assert_eq!(why(append(&mut log, 167, &t_event())), Err(Refusal::LogEnd));
-    assert_eq!(why(append(&mut log, 201, &t_event())), Err(Refusal::Place));
-    assert_eq!(append(&mut log, 0, &Event::default()), Ok(64));
-    assert_eq!(step(&log, 0).unwrap().record_number, 1);
+    assert_eq!(
+        why(append(Unicode, &mut log, 168, &t_event())),
+        Err(Refusal::Output)
+    );
+    assert_eq!(
+        why(append(Unicode, &mut log, 167, &t_event())),
+        Err(Refusal::LogEnd)
+    );
+    assert_eq!(
+        why(append(Unicode, &mut log, 201, &t_event())),
+        Err(Refusal::Place)
+    );
+    assert_eq!(append(Unicode, &mut log, 0, &Event::default()), Ok(64));
+    assert_eq!(step(Unicode, &log, 0).unwrap().record_number, 1);
 }
 
 /// Every field of an event has its own place, in writing, appending and reading.
@@ -243,19 +263,19 @@ fn every_field() {
     ]);
     record[94..97].copy_from_slice(event.event_data);
     let mut out = [0; 104];
-    assert_eq!(write(0x1413_1211, &event, &mut out), Ok(104));
+    assert_eq!(write(Unicode, 0x1413_1211, &event, &mut out), Ok(104));
     assert_eq!(out, record);
-    let read = step(&record, 0).unwrap();
+    let read = step(Unicode, &record, 0).unwrap();
     assert_eq!((read.record_number, read.event), (0x1413_1211, event));
     record[8..12].copy_from_slice(&[1, 0, 0, 0]);
-    assert_eq!(append(&mut out, 0, &event), Ok(104));
+    assert_eq!(append(Unicode, &mut out, 0, &event), Ok(104));
     assert_eq!(out, record);
 }
 
 /// A read with these flags, and how much of the output it used.
 fn serve(place: Place, log: &[u8], flags: u32, number: u32, size: usize) -> (Vec<u8>, Served) {
     let mut out = vec![0xAA; 200];
-    let answer = Handle { place }.read_with_flags(log, flags, number, size, &mut out);
+    let answer = Handle { place }.read_with_flags(Unicode, log, flags, number, size, &mut out);
     let served = match answer {
         Ok(batch) => Ok((batch.bytes.len(), batch.handle.place)),
         Err(error) => Err((error.status, error.handle.place)),
@@ -307,7 +327,7 @@ fn kinds_and_directions() {
     ] {
         let place = Place::Boundary(168);
         let mut out = [0xAA; 200];
-        let answer = Handle { place }.read(&log, kind, direction, 104, &mut out);
+        let answer = Handle { place }.read(Unicode, &log, kind, direction, 104, &mut out);
         let batch = answer.unwrap();
         assert_eq!(batch.handle.place, Place::Boundary(boundary));
         let bytes = batch.bytes.len();
@@ -342,13 +362,13 @@ fn statuses() {
 
 #[test]
 fn types_and_flags() {
-    let both = told(refusal(&put(&T, 24, 32), 0));
+    let both = told(refusal(Unicode, &put(&T, 24, 32), 0));
     assert_eq!(both, Some((Refusal::EventType, 24)));
-    assert_eq!(refusal(&put(&T, 24, 16), 0), None);
-    let both = told(refusal(&put(&S, 0, 60), 0));
+    assert_eq!(refusal(Unicode, &put(&T, 24, 16), 0), None);
+    let both = told(refusal(Unicode, &put(&S, 0, 60), 0));
     assert_eq!(both, Some((Refusal::Length, 0)));
-    assert_eq!(refusal(&put(&T, 31, 0x80), 0), None);
-    let both = told(refusal(&put(&T, 31, 0x40), 0));
+    assert_eq!(refusal(Unicode, &put(&T, 31, 0x80), 0), None);
+    let both = told(refusal(Unicode, &put(&T, 31, 0x40), 0));
     assert_eq!(both, Some((Refusal::Flags, 30)));
 }
 
@@ -361,15 +381,15 @@ fn most_strings() {
             strings: &strings[..2 * usize::from(num_strings)],
             ..Event::default()
         };
-        write(S_NUMBER, &event, record)
+        write(Unicode, S_NUMBER, &event, record)
     };
     let mut record = [0; 64 + 2 * 256];
     assert_eq!(with_strings(256, &mut record), Ok(record.len()));
-    assert_eq!(refusal(&record, 0), None);
-    assert_eq!(step(&record, 0).unwrap().strings().count(), 256);
+    assert_eq!(refusal(Unicode, &record, 0), None);
+    assert_eq!(step(Unicode, &record, 0).unwrap().strings().count(), 256);
     let one_more = with_strings(257, &mut [0; 1000]);
     assert_eq!(one_more, Err(Refusal::StringCount));
-    let both = told(refusal(&put(&record, 26, 1), 0));
+    let both = told(refusal(Unicode, &put(&record, 26, 1), 0));
     assert_eq!(both, Some((Refusal::StringCount, 26)));
 }
 
@@ -382,17 +402,20 @@ fn longest_record() {
             event_data: &data,
             ..Event::default()
         };
-        write(S_NUMBER, &event, record)
+        write(Unicode, S_NUMBER, &event, record)
     };
     let mut record = vec![0; 262_144];
     assert_eq!(of_length(100_318, &mut record), Ok(262_140));
-    assert_eq!(refusal(&record, 0), None);
+    assert_eq!(refusal(Unicode, &record, 0), None);
     assert_eq!(of_length(100_319, &mut record), Err(Refusal::Length));
     assert_eq!(of_length(100_320, &mut record), Err(Refusal::Length));
     record[..4].copy_from_slice(&262_144u32.to_le_bytes());
     record[262_140..].copy_from_slice(&262_144u32.to_le_bytes());
-    assert_eq!(told(refusal(&record, 0)), Some((Refusal::Length, 0)));
-    let back = refused(step_back(&record, 262_144));
+    assert_eq!(
+        told(refusal(Unicode, &record, 0)),
+        Some((Refusal::Length, 0))
+    );
+    let back = refused(step_back(Unicode, &record, 262_144));
     assert_eq!(back, (Refusal::Length, 262_144));
 }
 
@@ -409,18 +432,21 @@ fn longest_record_without_gap() {
     for (at, value) in [(0, 262_140_u32), (48, 61_438), (52, 200_698)] {
         record[at..at + 4].copy_from_slice(&value.to_le_bytes());
     }
-    let read = step(&record, 0).unwrap();
+    let read = step(Unicode, &record, 0).unwrap();
     assert_eq!((read.length, read.places.event_data), (262_140, 200_698));
-    assert_eq!(step_back(&record, 262_140), Ok(read));
+    assert_eq!(step_back(Unicode, &record, 262_140), Ok(read));
     let mut out = vec![0xEE; 262_144];
-    assert_eq!(write(7, &read.event, &mut out), Err(Refusal::Length));
+    assert_eq!(
+        write(Unicode, 7, &read.event, &mut out),
+        Err(Refusal::Length)
+    );
     assert!(out.iter().all(|byte| *byte == 0xEE));
     // Two bytes of data less, and the padded record is not longer.
     let event = Event {
         event_data: &read.event.event_data[..61_436],
         ..read.event
     };
-    assert_eq!(write(7, &event, &mut out), Ok(262_140));
+    assert_eq!(write(Unicode, 7, &event, &mut out), Ok(262_140));
 }
 
 /// The largest Length with every part: two names, a SID, as many strings and as
@@ -456,16 +482,16 @@ fn longest_record_of_every_part() {
 
     let mut record = vec![0xAA; MAX_LENGTH + 4];
     assert_eq!(
-        write(T_NUMBER, &event, &mut record[..MAX_LENGTH - 1]),
+        write(Unicode, T_NUMBER, &event, &mut record[..MAX_LENGTH - 1]),
         Err(Refusal::Output)
     );
     assert!(record.iter().all(|b| *b == 0xAA));
-    assert_eq!(write(T_NUMBER, &event, &mut record), Ok(262_140));
+    assert_eq!(write(Unicode, T_NUMBER, &event, &mut record), Ok(262_140));
     assert_eq!(record[MAX_LENGTH..], [0xAA; 4]);
     record.truncate(MAX_LENGTH);
 
-    let found = step(&record, 0).unwrap();
-    assert_eq!(step_back(&record, 262_140), Ok(found));
+    let found = step(Unicode, &record, 0).unwrap();
+    assert_eq!(step_back(Unicode, &record, 262_140), Ok(found));
     assert_eq!((found.start, found.length), (0, 262_140));
     assert_eq!((found.record_number, found.event), (T_NUMBER, event));
     let places = found.places;
@@ -477,25 +503,34 @@ fn longest_record_of_every_part() {
         assert_eq!(found.string(k), Ok(Text::new(string)));
     }
     for k in [0, 128, 255] {
-        assert_eq!(string(&record, 0, k), Ok(Text::new(&strings[k as usize])));
+        assert_eq!(
+            string(Unicode, &record, 0, k),
+            Ok(Text::new(&strings[k as usize]))
+        );
     }
-    assert_eq!(why(string(&record, 0, 256)), Err(Refusal::NoString));
+    assert_eq!(
+        why(string(Unicode, &record, 0, 256)),
+        Err(Refusal::NoString)
+    );
 
     // In a log: between S and T, walked and served from both ends.
     let end = 64 + MAX_LENGTH;
     let mut log = vec![0; end + 104];
     log[..64].copy_from_slice(&S);
-    let short = append(&mut log[..end - 1], 64, &event);
+    let short = append(Unicode, &mut log[..end - 1], 64, &event);
     assert_eq!(why(short), Err(Refusal::Output));
-    assert_eq!(append(&mut log, 64, &event), Ok(end));
+    assert_eq!(append(Unicode, &mut log, 64, &event), Ok(end));
     assert_eq!(log[64..end], record);
-    assert_eq!(append(&mut log, end, &t_event()), Ok(end + 104));
-    assert_eq!((walk(&log), walk_back(&log)), (Ok(3), Ok(3)));
-    assert!(records(&log).eq([0, 64, end].map(|at| step(&log, at))));
-    assert!(records_back(&log).eq([end, 64, 0].map(|at| step(&log, at))));
+    assert_eq!(append(Unicode, &mut log, end, &t_event()), Ok(end + 104));
+    assert_eq!(
+        (walk(Unicode, &log), walk_back(Unicode, &log)),
+        (Ok(3), Ok(3))
+    );
+    assert!(records(Unicode, &log).eq([0, 64, end].map(|at| step(Unicode, &log, at))));
+    assert!(records_back(Unicode, &log).eq([end, 64, 0].map(|at| step(Unicode, &log, at))));
     let mut text = [0; 100];
     assert_eq!(
-        listing(&log, &mut text),
+        listing(Unicode, &log, &mut text),
         Ok("records 3\n0 64 7\n64 262140 8\n262204 104 9\n")
     );
     for (direction, from, to) in [
@@ -507,17 +542,24 @@ fn longest_record_of_every_part() {
         };
         let kind = ReadKind::Sequential;
         let mut out = vec![0xAA; MAX_LENGTH + 1];
-        let small = handle().read(&log, kind, direction, MAX_LENGTH - 1, &mut out);
+        let small = handle().read(Unicode, &log, kind, direction, MAX_LENGTH - 1, &mut out);
         let needed = MAX_LENGTH;
         assert_eq!(small.unwrap_err().status, Status::BufferTooSmall { needed });
-        let batch = handle().read(&log, kind, direction, MAX_LENGTH, &mut out);
+        let batch = handle().read(Unicode, &log, kind, direction, MAX_LENGTH, &mut out);
         let batch = batch.unwrap();
         assert_eq!(batch.bytes, record);
         assert_eq!(batch.handle.place, Place::Boundary(to));
         assert_eq!(out[MAX_LENGTH], 0xAA);
         // A seek finds it, and the other two records fit with it.
         let mut out = vec![0; MAX_READ];
-        let sought = handle().read(&log, ReadKind::Seek(8), direction, MAX_READ, &mut out);
+        let sought = handle().read(
+            Unicode,
+            &log,
+            ReadKind::Seek(8),
+            direction,
+            MAX_READ,
+            &mut out,
+        );
         let expected = match direction {
             Direction::Forwards => log[64..].to_vec(),
             Direction::Backwards => [&log[64..end], &log[..64]].concat(),
@@ -530,8 +572,11 @@ fn longest_record_of_every_part() {
     for (more, answer) in [(2, Ok(262_140)), (4, Err(Refusal::Length))] {
         let strings = &run[4 - more..];
         let longer = Event { strings, ..event };
-        assert_eq!(write(T_NUMBER, &longer, &mut record), answer);
-        assert_eq!(append(&mut log, 64, &longer).is_ok(), answer.is_ok());
+        assert_eq!(write(Unicode, T_NUMBER, &longer, &mut record), answer);
+        assert_eq!(
+            append(Unicode, &mut log, 64, &longer).is_ok(),
+            answer.is_ok()
+        );
     }
 }
 
@@ -549,8 +594,8 @@ fn texts_that_run_up_to_length2() {
             record[..4].copy_from_slice(&said.to_le_bytes());
             (record[26], record[36]) = (num_strings, 60);
             assert_eq!(record[length - 4..length - 2], [0, 0]);
-            let front = told(refusal(&record, 0));
-            let back = step_back(&record, length).err();
+            let front = told(refusal(Unicode, &record, 0));
+            let back = step_back(Unicode, &record, length).err();
             assert_eq!(front, back.map(|bad| (bad.refusal, bad.field)));
             front
         };

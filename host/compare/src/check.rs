@@ -1,4 +1,4 @@
-//! One input given to both libraries; a difference panics.
+//! One input given to both libraries in one edition; a difference panics.
 
 use std::collections::HashSet;
 use std::fmt::{Debug, Write};
@@ -9,8 +9,9 @@ use std::path::Path;
 use std::process::{Command, Output, Stdio};
 
 use eventlog::{Direction, ReadKind, Refusal, Refused, Run, Text};
+use plain::Edition;
 
-use crate::make::{get, Made, MAX_LENGTH, TOO_LONG};
+use crate::make::{begins_with_zero, get, Made, MAX_LENGTH, TOO_LONG};
 
 /// The calls that refuse, and the listing program.
 #[derive(Clone, Copy, Debug, PartialEq, Eq)]
@@ -407,6 +408,10 @@ fn hex(bytes: &[u8]) -> String {
 
 /// Compares, counts, and says where it is when there is a difference.
 pub struct Check {
+    /// What all is given as,
+    pub edition: Edition,
+    /// as the proved library has it.
+    proved: eventlog::Edition,
     label: String,
     pub tally: Tally,
     fill: u8,
@@ -416,8 +421,13 @@ pub struct Check {
 }
 
 impl Check {
-    pub fn new(label: String) -> Self {
+    pub fn new(edition: Edition, label: String) -> Self {
         Check {
+            edition,
+            proved: match edition {
+                Edition::Unicode => eventlog::Edition::Unicode,
+                Edition::Ansi => eventlog::Edition::Ansi,
+            },
             label,
             tally: Tally::default(),
             fill: 0,
@@ -428,7 +438,10 @@ impl Check {
 
     #[cold]
     fn differ(&self, call: &str, inputs: &[&[u8]], proved: &dyn Debug, plain: &dyn Debug) -> ! {
-        let mut text = format!("difference in {call} ({})\n", self.label);
+        let mut text = format!(
+            "difference in {call} ({}, {:?})\n",
+            self.label, self.edition
+        );
         for input in inputs {
             let _ = writeln!(text, "input, {} bytes: {}", input.len(), hex(input));
         }
@@ -454,13 +467,16 @@ impl Check {
 
     /// step at a place. Answers the number of strings where it is good.
     pub fn step(&mut self, s: &[u8], at: usize) -> Option<u32> {
-        let proved = seen_proved(s, eventlog::step(s, at));
-        let plain = seen_plain(s, plain::step(s, at));
+        let proved = seen_proved(s, eventlog::step(self.proved, s, at));
+        let plain = seen_plain(s, plain::step(self.edition, s, at));
         if proved != plain {
             self.differ(&format!("step at {at}"), &[s], &proved, &plain);
         }
         let (number, field) = proved.as_ref().err().map_or((0, 0), |r| (r.0, r.1));
-        let refusals = (numbers_of(eventlog::refusal(s, at)), plain::refusal(s, at));
+        let refusals = (
+            numbers_of(eventlog::refusal(self.proved, s, at)),
+            plain::refusal(self.edition, s, at),
+        );
         let stepped = plain::Refused { number, field };
         if refusals != (stepped, stepped) {
             self.differ(&format!("refusal at {at}"), &[s], &refusals.0, &refusals.1);
@@ -469,7 +485,8 @@ impl Check {
         self.count_case(Case::FarRecord, number == 0 && at > FAR);
         let length = proved.as_ref().map_or(0, |seen| seen.length);
         self.count_case(Case::LongestRecord, length == MAX_LENGTH);
-        self.count_case(Case::ZeroUnit, number == 0 && length.is_multiple_of(FAR));
+        let zero_unit = number == 0 && begins_with_zero(self.edition, length);
+        self.count_case(Case::ZeroUnit, zero_unit);
         let too_long = number == 2 && s.len() - at >= TOO_LONG;
         let too_long = too_long && get(s, at, 4) == TOO_LONG as u32;
         self.count_case(Case::TooLongRecord, too_long);
@@ -479,8 +496,8 @@ impl Check {
 
     /// step_back at a place.
     pub fn step_back(&mut self, s: &[u8], end: usize) {
-        let proved = seen_proved(s, eventlog::step_back(s, end));
-        let plain = seen_plain(s, plain::step_back(s, end));
+        let proved = seen_proved(s, eventlog::step_back(self.proved, s, end));
+        let plain = seen_plain(s, plain::step_back(self.edition, s, end));
         if proved != plain {
             self.differ(&format!("step_back at {end}"), &[s], &proved, &plain);
         }
@@ -497,16 +514,17 @@ impl Check {
     /// A good record read and written again (Rule 6.15): its event in the
     /// writer's own layout, at most four bytes longer, or refusal 2.
     pub fn rewrite(&mut self, s: &[u8]) {
-        let event = plain::step(s, 0).expect("the record is good");
-        let read = eventlog::step(s, 0).expect("the record is good");
+        let event = plain::step(self.edition, s, 0).expect("the record is good");
+        let read = eventlog::step(self.proved, s, 0).expect("the record is good");
         let mut out = self.outputs(s.len() + 4);
         let number = read.record_number;
-        let proved = eventlog::write(number, &read.event, &mut out[0]).map_err(Refusal::number);
-        let plain = plain::write(&again(&event), &mut out[1]);
+        let proved =
+            eventlog::write(self.proved, number, &read.event, &mut out[0]).map_err(Refusal::number);
+        let plain = plain::write(self.edition, &again(&event), &mut out[1]);
         let longer = plain.is_ok_and(|length| length > s.len());
         let right = match plain {
             Ok(length) => {
-                plain::step(&out[1], 0).is_ok_and(|r| again(&r) == again(&event))
+                plain::step(self.edition, &out[1], 0).is_ok_and(|r| again(&r) == again(&event))
                     && length <= s.len() + 4
             }
             Err(number) => number == 2 && s.len() == MAX_LENGTH,
@@ -530,32 +548,36 @@ impl Check {
         self.step_back(log, record.end);
         self.walks(log);
         let steps = (
-            plain::judge(log, record.start).map_err(|why| why.number),
-            plain::judge_back(log, record.end).map_err(|why| why.number),
+            plain::judge(self.edition, log, record.start).map_err(|why| why.number),
+            plain::judge_back(self.edition, log, record.end).map_err(|why| why.number),
         );
-        let walks = [plain::walk(log), plain::walk_back(log)].map(|w| (w.refusal, w.at));
+        let walks = [
+            plain::walk(self.edition, log),
+            plain::walk_back(self.edition, log),
+        ]
+        .map(|w| (w.refusal, w.at));
         let expected = [record.start, record.end].map(|at| (refusal, at));
         if steps != (Err(refusal), Err(refusal)) || walks != expected {
             self.differ("a text without an end", &[log], &expected, &(steps, walks));
         }
-        let zero_unit = record.len().is_multiple_of(FAR);
+        let zero_unit = begins_with_zero(self.edition, record.len());
         self.count_case(Case::ZeroUnitName, zero_unit && refusal == 9);
         self.count_case(Case::ZeroUnitString, zero_unit && refusal == 11);
     }
 
     /// String `k` of the record at a place.
     pub fn string(&mut self, s: &[u8], at: usize, k: u32) {
-        let refused = plain::string_refusal(s, at, k);
+        let refused = plain::string_refusal(self.edition, s, at, k);
         let number = refused.number;
         let plain = match number {
-            0 => Ok(location(s, plain::string(s, at, k), 0)),
+            0 => Ok(location(s, plain::string(self.edition, s, at, k), 0)),
             _ => Err(refused),
         };
-        let proved = match eventlog::string(s, at, k) {
+        let proved = match eventlog::string(self.proved, s, at, k) {
             Ok(string) => Ok(location(s, string.as_bytes(), 0)),
             Err(refused) => Err(plainly(refused)),
         };
-        let told = numbers_of(eventlog::string_refusal(s, at, k));
+        let told = numbers_of(eventlog::string_refusal(self.proved, s, at, k));
         if proved != plain || told != refused {
             self.differ(
                 &format!("string {k} at {at}"),
@@ -564,7 +586,7 @@ impl Check {
                 &(plain, refused),
             );
         }
-        if number != 0 && !plain::string(s, at, k).is_empty() {
+        if number != 0 && !plain::string(self.edition, s, at, k).is_empty() {
             self.differ(
                 &format!("string {k} at {at}"),
                 &[s],
@@ -579,8 +601,8 @@ impl Check {
     /// The string at a place of a run. What the proved answer leaves out of a
     /// refusal is 0 and the place, which the binding's own tests see to.
     pub fn next_string(&mut self, s: &[u8], (at, len): (usize, usize), place: usize) {
-        let plain = plain::next_string(s, (at, len), place);
-        let proved = match eventlog::next_string(s, Run { at, len }, place) {
+        let plain = plain::next_string(self.edition, s, (at, len), place);
+        let proved = match eventlog::next_string(self.proved, s, Run { at, len }, place) {
             Ok((string, next)) => {
                 let lies = location(s, string.as_bytes(), 0);
                 (0, lies.at, lies.len, next)
@@ -652,7 +674,10 @@ impl Check {
 
     /// Both walks.
     pub fn walks(&mut self, s: &[u8]) {
-        let walks = [(eventlog::walk(s), s.len()), (eventlog::walk_back(s), 0)];
+        let walks = [
+            (eventlog::walk(self.proved, s), s.len()),
+            (eventlog::walk_back(self.proved, s), 0),
+        ];
         let proved = walks.map(|(walk, reached)| match walk {
             Ok(count) => (count, 0, 0, reached),
             Err(stopped) => {
@@ -660,7 +685,10 @@ impl Check {
                 (stopped.count, number, stopped.field, stopped.at)
             }
         });
-        let plain = [plain::walk(s), plain::walk_back(s)];
+        let plain = [
+            plain::walk(self.edition, s),
+            plain::walk_back(self.edition, s),
+        ];
         let plain = plain.map(|w| (w.count, w.refusal, w.field, w.at));
         if proved != plain {
             self.differ("walk, walk_back", &[s], &proved, &plain);
@@ -676,16 +704,18 @@ impl Check {
         let (mut at, mut end) = (0, s.len());
         let (mut front, mut rear) = (Vec::new(), Vec::new());
         while at < s.len() {
-            front.push(seen_plain(s, plain::step(s, at)));
-            at += plain::judge(s, at).unwrap_or(s.len());
+            front.push(seen_plain(s, plain::step(self.edition, s, at)));
+            at += plain::judge(self.edition, s, at).unwrap_or(s.len());
         }
         while end > 0 {
-            rear.push(seen_plain(s, plain::step_back(s, end)));
-            end -= plain::judge_back(s, end).unwrap_or(end);
+            rear.push(seen_plain(s, plain::step_back(self.edition, s, end)));
+            end -= plain::judge_back(self.edition, s, end).unwrap_or(end);
         }
         let proved: [Vec<Answered>; 2] = [
-            eventlog::records(s).map(|r| seen_proved(s, r)).collect(),
-            eventlog::records_back(s)
+            eventlog::records(self.proved, s)
+                .map(|r| seen_proved(s, r))
+                .collect(),
+            eventlog::records_back(self.proved, s)
                 .map(|r| seen_proved(s, r))
                 .collect(),
         ];
@@ -693,7 +723,7 @@ impl Check {
         if proved != plain {
             self.differ("records, records_back", &[s], &proved, &plain);
         }
-        for record in eventlog::records(s).flatten() {
+        for record in eventlog::records(self.proved, s).flatten() {
             self.strings(s, &record);
         }
         self.tally.calls += 2;
@@ -708,8 +738,8 @@ impl Check {
         for k in 0..=u32::from(record.event.num_strings) {
             let next = strings.next().map(Text::as_bytes);
             let numbered = record.string(k).ok().map(Text::as_bytes);
-            let plain = match plain::string_refusal(s, record.start, k).number {
-                0 => Some(plain::string(s, record.start, k)),
+            let plain = match plain::string_refusal(self.edition, s, record.start, k).number {
+                0 => Some(plain::string(self.edition, s, record.start, k)),
                 _ => None,
             };
             if (next, numbered) != (plain, plain) {
@@ -717,7 +747,7 @@ impl Check {
                 self.differ(&call, &[s], &(next, numbered), &plain);
             }
             self.next_string(s, run, place);
-            let found = plain::next_string(s, run, place);
+            let found = plain::next_string(self.edition, s, run, place);
             if (found.refusal == 0) != plain.is_some() {
                 let call = format!("next string {k} of the record at {}", record.start);
                 self.differ(&call, &[s], &found, &plain);
@@ -756,12 +786,12 @@ impl Check {
     /// The plain library's parts by place, against the proved record's.
     pub fn parts(&mut self, s: &[u8], at: usize) {
         let plain = [
-            plain::source_name(s, at),
-            plain::computer_name(s, at),
-            plain::sid(s, at),
-            plain::event_data(s, at),
+            plain::source_name(self.edition, s, at),
+            plain::computer_name(self.edition, s, at),
+            plain::sid(self.edition, s, at),
+            plain::event_data(self.edition, s, at),
         ];
-        let proved = eventlog::step(s, at).map_or([&[][..]; 4], |r| {
+        let proved = eventlog::step(self.proved, s, at).map_or([&[][..]; 4], |r| {
             let names = [r.event.source_name, r.event.computer_name].map(Text::as_bytes);
             [names[0], names[1], r.event.sid, r.event.event_data]
         });
@@ -803,7 +833,7 @@ impl Check {
     /// The listing into outputs of the text's own length, of one byte less, and
     /// of another length.
     pub fn listing(&mut self, s: &[u8], other: usize) {
-        let text = listing_text(s);
+        let text = listing_text(self.edition, s);
         assert!(text.len() <= s.len() + 64);
         for out_len in [text.len(), text.len() - 1, other] {
             self.listing_into(s, &text, out_len);
@@ -812,7 +842,7 @@ impl Check {
 
     fn listing_into(&mut self, s: &[u8], text: &str, out_len: usize) {
         let mut out = self.outputs(out_len);
-        let proved = match eventlog::listing(s, &mut out[0]) {
+        let proved = match eventlog::listing(self.proved, s, &mut out[0]) {
             Ok(text) => Ok(text.len()),
             Err(refusal) => Err(refusal.number()),
         };
@@ -837,16 +867,17 @@ impl Check {
         self.count(Call::Listing, plain.err().unwrap_or(0));
     }
 
-    /// The built listing program, which gets the batch in two pieces. It exits
-    /// with success and says nothing on standard error.
+    /// The built listing program, which lists Unicode and gets the batch in two
+    /// pieces. It exits with success and says nothing on standard error.
     pub fn program(&mut self, s: &[u8], piece: usize) {
+        assert_eq!(self.edition, Edition::Unicode);
         let answer = run_program(s, piece);
         let proved = (
             answer.status.code(),
             String::from_utf8_lossy(&answer.stdout).into_owned(),
             String::from_utf8_lossy(&answer.stderr).into_owned(),
         );
-        let text = plain::listing(s);
+        let text = plain::listing(self.edition, s);
         let number = listed_refusal(&text);
         let plain = (Some(0), text, String::new());
         if proved != plain {
@@ -856,18 +887,19 @@ impl Check {
         self.count_case(Case::FullProgram, full && number == 0);
         self.count_case(Case::FullProgramRefused, full && number != 0);
         self.count_case(Case::EmptyProgram, s.is_empty());
-        let one = s.len() == FAR && plain::judge(s, 0) == Ok(FAR);
+        let one = s.len() == FAR && plain::judge(self.edition, s, 0) == Ok(FAR);
         self.count_case(Case::FullProgramRecord, one);
         self.count(Call::Program, number);
     }
 
-    /// Writing an event into an output of a length.
+    /// Writing an event of this edition into an output of a length.
     pub fn write(&mut self, event: &Made, out_len: usize) {
+        assert_eq!(event.edition, self.edition);
         let mut out = self.outputs(out_len);
         let number = event.fields.record_number;
-        let proved = eventlog::write(number, &event.proved(), &mut out[0]);
+        let proved = eventlog::write(self.proved, number, &event.proved(), &mut out[0]);
         let proved = proved.map_err(Refusal::number);
-        let plain = plain::write(&event.plain(), &mut out[1]);
+        let plain = plain::write(self.edition, &event.plain(), &mut out[1]);
         let call = format!("write into {out_len} of {:?}", event.fields);
         let inputs = parts_of(event);
         if proved != plain {
@@ -893,8 +925,8 @@ impl Check {
     pub fn append(&mut self, log: &mut Vec<u8>, used: usize, event: &Made) -> Option<usize> {
         let mut other = log.clone();
         let old = log.clone();
-        let proved = eventlog::append(log, used, &event.proved()).map_err(plainly);
-        let plain = plain::append(&mut other, used, &event.plain());
+        let proved = eventlog::append(self.proved, log, used, &event.proved()).map_err(plainly);
+        let plain = plain::append(self.edition, &mut other, used, &event.plain());
         let call = format!("append behind {used} of {:?}", event.fields);
         let parts = parts_of(event);
         let inputs = [&old, parts[0], parts[1], parts[2], parts[3], parts[4]];
@@ -942,15 +974,15 @@ impl Check {
         let answer = match kind_and_direction(flags, number) {
             Some((kind, direction)) => {
                 let handle = handles.proved;
-                handle.read(log, kind, direction, size, &mut out[0])
+                handle.read(self.proved, log, kind, direction, size, &mut out[0])
             }
             None => {
                 let handle = handles.proved;
-                handle.read_with_flags(log, flags, number, size, &mut out[0])
+                handle.read_with_flags(self.proved, log, flags, number, size, &mut out[0])
             }
         };
         let seen = read_proved(answer);
-        let plain = given.read(log, flags, number, size, &mut out[1]);
+        let plain = given.read(self.edition, log, flags, number, size, &mut out[1]);
         let call = || format!("read with {given:?}, {request:?}");
         if seen != plain {
             self.differ(&call(), &[log], &seen, &plain);
@@ -1028,14 +1060,14 @@ fn listed_refusal(text: &str) -> u32 {
 
 /// The plain listing. Its limit of 65,536 bytes is the listing program's, not
 /// the proved call's, so a longer batch is listed from plain steps.
-fn listing_text(s: &[u8]) -> String {
+fn listing_text(edition: Edition, s: &[u8]) -> String {
     if s.len() <= plain::MAX_LISTED {
-        return plain::listing(s);
+        return plain::listing(edition, s);
     }
     let mut lines = String::new();
     let (mut at, mut count) = (0, 0);
     while at < s.len() {
-        match plain::step(s, at) {
+        match plain::step(edition, s, at) {
             Ok(r) => {
                 let number = r.fields.record_number;
                 let _ = writeln!(lines, "{} {} {number}", r.start, r.length);

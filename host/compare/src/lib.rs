@@ -1,7 +1,8 @@
-//! The proved library (`eventlog`) compared with the plain one on made inputs.
+//! The proved library (`eventlog`) compared with the plain one on made inputs, in
+//! both editions.
 //!
-//! Work is cut into rounds of a family of inputs; each has its own seed, so a
-//! difference names the round that shows it again.
+//! Work is cut into rounds of a family of inputs in an edition; each has its own
+//! seed, so a difference names the round that shows it again.
 
 pub mod card;
 pub mod check;
@@ -11,13 +12,14 @@ pub mod windows_1252;
 
 use check::{Check, Handles, Request, Tally};
 use make::{Made, Size, FIELDS};
+use plain::Edition;
 use random::Random;
 
 /// A kind of inputs: its name and one round of it.
 pub type Family = (&'static str, fn(&mut Random, &mut Check));
 
 /// All kinds of inputs, those with short ones first.
-pub const FAMILIES: [Family; 12] = [
+pub const FAMILIES: [Family; 13] = [
     ("fields", fields),
     ("bytes", bytes),
     ("cuts", cuts),
@@ -30,13 +32,14 @@ pub const FAMILIES: [Family; 12] = [
     ("listings", listings),
     ("runs", runs),
     ("lengths", lengths),
+    ("editions", editions),
 ];
 
-/// One round of a family.
-pub fn round(family: usize, round: u64) -> Tally {
+/// One round of a family in an edition.
+pub fn round(edition: Edition, family: usize, round: u64) -> Tally {
     let (name, run) = FAMILIES[family];
-    let mut rng = Random::new((family as u64) << 56 ^ round);
-    let mut check = Check::new(format!("family {name}, round {round}"));
+    let mut rng = Random::new((family as u64) << 56 ^ (edition as u64) << 52 ^ round);
+    let mut check = Check::new(edition, format!("family {name}, round {round}"));
     run(&mut rng, &mut check);
     check.tally
 }
@@ -56,7 +59,7 @@ fn fields(rng: &mut Random, check: &mut Check) {
         } else {
             Size::Small
         };
-        let good = make::record(rng, size);
+        let good = make::record(check.edition, rng, size);
         check.buffer(&good);
         check.rewrite(&good);
         every_field(rng, check, &good);
@@ -92,7 +95,7 @@ fn every_field(rng: &mut Random, check: &mut Check, good: &[u8]) {
 
 /// Byte flips: every byte of small records, some of longer ones.
 fn bytes(rng: &mut Random, check: &mut Check) {
-    let good = make::record(rng, Size::Small);
+    let good = make::record(check.edition, rng, Size::Small);
     for at in 0..good.len() {
         let old = good[at];
         let bit = 1 << rng.below(8);
@@ -105,7 +108,7 @@ fn bytes(rng: &mut Random, check: &mut Check) {
     }
     for _ in 0..300 {
         let size = some_size(rng);
-        let mut changed = make::record(rng, size);
+        let mut changed = make::record(check.edition, rng, size);
         make::damage(rng, &mut changed);
         check.buffer(&changed);
     }
@@ -114,8 +117,8 @@ fn bytes(rng: &mut Random, check: &mut Check) {
 /// Truncations, more bytes, any places.
 fn cuts(rng: &mut Random, check: &mut Check) {
     let good = match rng.once_in(3) {
-        true => make::nested(rng),
-        false => make::record(rng, Size::Small),
+        true => make::nested(check.edition, rng),
+        false => make::record(check.edition, rng, Size::Small),
     };
     let before = rng.below(9);
     let mut whole = rng.bytes(before);
@@ -139,7 +142,7 @@ fn cuts(rng: &mut Random, check: &mut Check) {
         check.at(&whole, at);
         check.string(&whole, at, 0);
     }
-    let longer = make::record(rng, Size::Medium);
+    let longer = make::record(check.edition, rng, Size::Medium);
     for _ in 0..20 {
         let len = rng.below(longer.len() + 1);
         check.buffer(&longer[..len]);
@@ -155,10 +158,10 @@ fn logs(rng: &mut Random, check: &mut Check) {
             _ => (rng.below(9), some_size(rng)),
         };
         let broken = rng.once_in(2);
-        let (log, places) = make::log(rng, count, size, broken);
+        let (log, places) = make::log(check.edition, rng, count, size, broken);
         whole_log(rng, check, &log, &places);
     }
-    let nested = make::nested(rng);
+    let nested = make::nested(check.edition, rng);
     for at in 0..=nested.len() {
         check.at(&nested, at);
     }
@@ -185,10 +188,50 @@ fn whole_log(rng: &mut Random, check: &mut Check, log: &[u8], places: &[usize]) 
     check.buffer(&log[from.min(to)..from.max(to)]);
 }
 
+/// Records and logs that were made in the other edition, by themselves and beside
+/// those of this one; and the other one's events, written and appended.
+fn editions(rng: &mut Random, check: &mut Check) {
+    let other = make::other(check.edition);
+    for i in 0..30 {
+        let size = some_size(rng);
+        let record = make::record(other, rng, size);
+        check.buffer(&record);
+        let (count, broken) = (rng.below(4), rng.once_in(4));
+        let (mut log, mut places) = make::log(other, rng, count, Size::Small, broken);
+        if i % 3 == 0 {
+            whole_log(rng, check, &log, &places);
+            continue;
+        }
+        // Records of this edition before those, and behind them.
+        let (before, mixed) = make::log(check.edition, rng, 2, Size::Small, false);
+        let (behind, last) = make::log(check.edition, rng, 2, Size::Small, false);
+        let len = before.len() + log.len();
+        places = places.iter().map(|at| before.len() + at).collect();
+        places.extend(mixed);
+        places.extend(last.iter().map(|at| len + at));
+        log = [before, log, behind].concat();
+        whole_log(rng, check, &log, &places);
+        let mut handles = Handles::fresh();
+        for _ in 0..8 {
+            let flags = rng.pick(&check::FLAGS);
+            let request = any_request(rng, &log, &places, flags);
+            handles = check.read(handles, &log, request);
+        }
+        let event = Made {
+            edition: check.edition,
+            ..Made::good(other, rng, size)
+        };
+        let out = event.length() - rng.below(2);
+        check.write(&event, out);
+        let used = rng.pick(&places);
+        check.append(&mut log, used, &event);
+    }
+}
+
 /// Plausible heads over bodies with many zero units, and mere bytes.
 fn noise(rng: &mut Random, check: &mut Check) {
     for _ in 0..1500 {
-        let mut made = make::noise(rng);
+        let mut made = make::noise(check.edition, rng);
         if rng.once_in(8) {
             make::damage(rng, &mut made);
         }
@@ -208,7 +251,7 @@ fn noise(rng: &mut Random, check: &mut Check) {
 /// Large records, and small changes of them.
 fn limits(rng: &mut Random, check: &mut Check) {
     for _ in 0..4 {
-        let mut made = Made::good(rng, Size::Large);
+        let mut made = Made::good(check.edition, rng, Size::Large);
         check.buffer(&made.encode(Some(rng)));
         let out = made.length() - rng.below(2);
         check.write(&made, out);
@@ -219,11 +262,11 @@ fn limits(rng: &mut Random, check: &mut Check) {
             check.write(&made, make::TOO_LONG);
         }
         if rng.once_in(8) {
-            let longest = make::longest_without_gap(rng);
+            let longest = make::longest_without_gap(check.edition, rng);
             check.buffer(&longest);
             check.rewrite(&longest);
         }
-        let good = make::record(rng, Size::Large);
+        let good = make::record(check.edition, rng, Size::Large);
         check.rewrite(&good);
         check.buffer(&good);
         if rng.once_in(200) {
@@ -239,9 +282,9 @@ fn limits(rng: &mut Random, check: &mut Check) {
 /// others; and a text that runs up to such a Length2, or to any.
 fn lengths(rng: &mut Random, check: &mut Check) {
     let length = rng.pick(&[&make::EDGES[..], &[make::TOO_LONG]].concat());
-    let mut made = Made::good(rng, Size::Small);
+    let mut made = Made::good(check.edition, rng, Size::Small);
     if length < 65_000 {
-        made = Made::default();
+        made = Made::new(check.edition);
     }
     if length < 65_000 || length > 130_000 && rng.once_in(2) {
         made.data = rng.bytes(make::MAX_DATA);
@@ -252,14 +295,15 @@ fn lengths(rng: &mut Random, check: &mut Check) {
 
     let any = 4 * rng.range(100, 2000);
     for length in [rng.pick(&[65_536, 131_072, 196_608, any]), any] {
-        let (mut record, refusal) = make::unended(rng, length);
-        let (before, _) = make::log(rng, 2, Size::Small, false);
-        let (after, _) = make::log(rng, 2, Size::Small, false);
+        let (mut record, refusal) = make::unended(check.edition, rng, length);
+        let (before, _) = make::log(check.edition, rng, 2, Size::Small, false);
+        let (after, _) = make::log(check.edition, rng, 2, Size::Small, false);
         let log = [&before[..], &record, &after].concat();
         let start = before.len();
         check.unended(&log, start..start + length, refusal);
         // Its last unit zero: the text ends, and what comes after it decides.
-        record[length - 6..length - 4].fill(0);
+        let last = length - 4 - make::width(check.edition);
+        record[last..length - 4].fill(0);
         check.at(&record, 0);
         check.step_back(&record, length);
     }
@@ -270,8 +314,8 @@ fn lengths(rng: &mut Random, check: &mut Check) {
 fn between(rng: &mut Random, check: &mut Check, made: &Made) {
     let record = made.encode(Some(rng));
     check.buffer(&record);
-    let (before, _) = make::log(rng, 2, Size::Small, false);
-    let (after, _) = make::log(rng, 2, Size::Small, false);
+    let (before, _) = make::log(check.edition, rng, 2, Size::Small, false);
+    let (after, _) = make::log(check.edition, rng, 2, Size::Small, false);
     let log = [&before[..], &record, &after].concat();
     let (start, end) = (before.len(), before.len() + record.len());
     check.at(&log, start);
@@ -323,8 +367,8 @@ fn writes(rng: &mut Random, check: &mut Check) {
             _ => some_size(rng),
         };
         let event = match rng.once_in(3) {
-            true => Made::good(rng, size),
-            false => Made::bad(rng, size),
+            true => Made::good(check.edition, rng, size),
+            false => Made::bad(check.edition, rng, size),
         };
         let length = event.length();
         let out = match rng.below(8) {
@@ -344,7 +388,7 @@ fn appends(rng: &mut Random, check: &mut Check) {
     for _ in 0..100 {
         let count = rng.below(4);
         let broken = rng.once_in(4);
-        let (mut log, places) = make::log(rng, count, Size::Small, broken);
+        let (mut log, places) = make::log(check.edition, rng, count, Size::Small, broken);
         if let (Some(last), true) = (places.iter().rev().nth(1), rng.once_in(4)) {
             make::put(&mut log, last + 8, 4, u32::MAX);
         }
@@ -369,8 +413,8 @@ fn some_appends(rng: &mut Random, check: &mut Check, mut log: Vec<u8>, mut used:
     for i in 0..5 {
         let size = if i == 4 { some_size(rng) } else { Size::Small };
         let event = match rng.once_in(4) {
-            true => Made::bad(rng, size),
-            false => Made::good(rng, size),
+            true => Made::bad(check.edition, rng, size),
+            false => Made::good(check.edition, rng, size),
         };
         if rng.once_in(8) {
             // Exactly as much room as it takes, or one byte less.
@@ -391,9 +435,9 @@ fn some_appends(rng: &mut Random, check: &mut Check, mut log: Vec<u8>, mut used:
 fn large_appends(rng: &mut Random, check: &mut Check) {
     let size = rng.pick(&[Size::Small, Size::Large]);
     let count = rng.below(4);
-    let (log, _) = make::log(rng, count, size, false);
+    let (log, _) = make::log(check.edition, rng, count, size, false);
     let used = log.len();
-    let event = Made::good(rng, Size::Large);
+    let event = Made::good(check.edition, rng, Size::Large);
     let length = event.length();
     for room in [length + rng.range(1, 99), length, length - 1] {
         let mut log = [&log[..], &rng.bytes(room)].concat();
@@ -418,7 +462,7 @@ fn runs(rng: &mut Random, check: &mut Check) {
             }
         }
     }
-    let s = make::record(rng, Size::Medium);
+    let s = make::record(check.edition, rng, Size::Medium);
     let (from, to) = (rng.below(s.len() + 1), rng.below(s.len() + 1));
     check.runs(&s, (from.min(to), from.abs_diff(to)));
 }
@@ -432,7 +476,7 @@ fn reads(rng: &mut Random, check: &mut Check) {
             1 => (rng.below(12), Size::Medium),
             _ => (rng.below(14), Size::Small),
         };
-        let (log, places) = make::log(rng, count, size, broken);
+        let (log, places) = make::log(check.edition, rng, count, size, broken);
         check.walks(&log);
         let mut handles = Handles::fresh();
         let mut flags = rng.pick(&check::FLAGS);
@@ -463,9 +507,9 @@ fn reads(rng: &mut Random, check: &mut Check) {
 /// Reads of about the largest size, of records that fill it exactly and stand
 /// between others.
 fn long_reads(rng: &mut Random, check: &mut Check) {
-    let (before, _) = make::log(rng, 3, Size::Small, false);
-    let block = make::records_of(rng, check::LARGEST_READ);
-    let (after, _) = make::log(rng, 3, Size::Medium, false);
+    let (before, _) = make::log(check.edition, rng, 3, Size::Small, false);
+    let block = make::records_of(check.edition, rng, check::LARGEST_READ);
+    let (after, _) = make::log(check.edition, rng, 3, Size::Medium, false);
     let log = [&before[..], &block, &after].concat();
     let (start, end) = (before.len(), before.len() + block.len());
     let first = make::get(&log, start + 8, 4);
@@ -499,22 +543,22 @@ fn listings(rng: &mut Random, check: &mut Check) {
     let mut batch = match rng.once_in(8) {
         true => {
             // One record that fills the program's input.
-            let mut made = Made::good(rng, Size::Small);
+            let mut made = Made::good(check.edition, rng, Size::Small);
             made.fit(rng, FULL_BATCH);
             made.encode(Some(rng))
         }
-        false => make::records_of(rng, length),
+        false => make::records_of(check.edition, rng, length),
     };
     listed(rng, check, &batch);
-    damage_record(rng, &mut batch);
+    damage_record(check.edition, rng, &mut batch);
     listed(rng, check, &batch);
     let extra = rng.below(3);
     batch.extend(rng.bytes(extra));
     listed(rng, check, &batch);
     let (count, broken) = (rng.below(5), rng.once_in(2));
-    let (mut log, _) = make::log(rng, count, Size::Small, broken);
+    let (mut log, _) = make::log(check.edition, rng, count, Size::Small, broken);
     if rng.once_in(2) {
-        damage_record(rng, &mut log);
+        damage_record(check.edition, rng, &mut log);
     }
     listed(rng, check, &log);
 }
@@ -525,13 +569,15 @@ const FULL_BATCH: usize = plain::MAX_LISTED;
 fn listed(rng: &mut Random, check: &mut Check, batch: &[u8]) {
     check.listing(batch, batch.len() + 64);
     check.listing(batch, batch.len() + 63);
-    let piece = rng.below(batch.len() + 1);
-    check.program(batch, piece);
+    if check.edition == Edition::Unicode {
+        let piece = rng.below(batch.len() + 1);
+        check.program(batch, piece);
+    }
 }
 
 /// Changes a field of one of the records, or any bytes.
-fn damage_record(rng: &mut Random, batch: &mut Vec<u8>) {
-    let places = make::starts(batch);
+fn damage_record(edition: Edition, rng: &mut Random, batch: &mut Vec<u8>) {
+    let places = make::starts(edition, batch);
     if places.is_empty() || rng.once_in(4) {
         return make::damage(rng, batch);
     }

@@ -1,6 +1,34 @@
-//! Events, records, logs and their damage.
+//! Events, records, logs and their damage, in either edition.
+
+use plain::Edition;
 
 use crate::random::Random;
+
+/// How many bytes a unit has.
+pub fn width(edition: Edition) -> usize {
+    match edition {
+        Edition::Unicode => 2,
+        Edition::Ansi => 1,
+    }
+}
+
+/// A zero unit.
+pub fn zero(edition: Edition) -> &'static [u8] {
+    &[0, 0][..width(edition)]
+}
+
+/// The edition that this one is not.
+pub fn other(edition: Edition) -> Edition {
+    match edition {
+        Edition::Unicode => Edition::Ansi,
+        Edition::Ansi => Edition::Unicode,
+    }
+}
+
+/// Whether the first unit of a Length2 is zero.
+pub fn begins_with_zero(edition: Edition, length: usize) -> bool {
+    (length as u32).to_le_bytes().starts_with(zero(edition))
+}
 
 /// The longest record.
 pub const MAX_LENGTH: usize = 262_140;
@@ -33,8 +61,9 @@ pub enum Size {
 }
 
 /// An event that owns its parts.
-#[derive(Clone, Default)]
+#[derive(Clone)]
 pub struct Made {
+    pub edition: Edition,
     pub fields: plain::Fields,
     pub source: Vec<u8>,
     pub computer: Vec<u8>,
@@ -70,8 +99,20 @@ fn aligned(place: usize) -> usize {
 }
 
 /// Units, none of them zero.
-pub fn text(rng: &mut Random, units: usize) -> Vec<u8> {
+pub fn text(edition: Edition, rng: &mut Random, units: usize) -> Vec<u8> {
     let kind = rng.below(3);
+    if edition == Edition::Ansi {
+        let mut out = rng.bytes(units);
+        for byte in &mut out {
+            *byte = match kind {
+                0 => 0x41 + *byte % 26,
+                // Next to zero, and those that a sum of bits takes for it.
+                1 => [1, 0x80, 0x7F, 0x81, 0xFF, 0xFE, 0x10, 0x01][usize::from(*byte % 8)],
+                _ => (*byte).max(1),
+            };
+        }
+        return out;
+    }
     let mut out = Vec::with_capacity(units * 2);
     let mut bits = 0;
     for i in 0..units {
@@ -132,8 +173,21 @@ fn number(rng: &mut Random) -> u32 {
 }
 
 impl Made {
+    /// An event of no part and no number.
+    pub fn new(edition: Edition) -> Made {
+        Made {
+            edition,
+            fields: plain::Fields::default(),
+            source: Vec::new(),
+            computer: Vec::new(),
+            sid: Vec::new(),
+            strings: Vec::new(),
+            data: Vec::new(),
+        }
+    }
+
     /// An event that the writer accepts.
-    pub fn good(rng: &mut Random, size: Size) -> Made {
+    pub fn good(edition: Edition, rng: &mut Random, size: Size) -> Made {
         let fields = plain::Fields {
             record_number: number(rng),
             time_generated: number(rng),
@@ -146,7 +200,7 @@ impl Made {
         };
         let mut made = Made {
             fields,
-            ..Made::default()
+            ..Made::new(edition)
         };
         if rng.once_in(2) {
             made.sid = sid(rng);
@@ -171,9 +225,9 @@ impl Made {
             }
         };
         let n = units_of(rng, name);
-        self.source = text(rng, n);
+        self.source = text(self.edition, rng, n);
         let n = units_of(rng, name);
-        self.computer = text(rng, n);
+        self.computer = text(self.edition, rng, n);
         let count = match rng.below(6) {
             0 | 1 => 0,
             2 => count,
@@ -187,9 +241,10 @@ impl Made {
         self.data = rng.bytes(n);
     }
 
-    fn push_string(&mut self, rng: &mut Random, units: usize) {
-        self.strings.extend(text(rng, units));
-        self.strings.extend([0, 0]);
+    /// One string more.
+    pub fn push_string(&mut self, rng: &mut Random, units: usize) {
+        self.strings.extend(text(self.edition, rng, units));
+        self.strings.extend(zero(self.edition));
         self.fields.num_strings += 1;
     }
 
@@ -200,16 +255,17 @@ impl Made {
         let room = MAX_LENGTH - 1000;
         let most = rng.pick(&[room / 4, room / 4, room / 2, room]);
         let n = rng.range(2000, most);
+        let units = n / width(self.edition);
         match rng.below(5) {
-            0 => self.source = text(rng, n / 2),
-            1 => self.computer = text(rng, n / 2),
-            2 => self.push_string(rng, n / 2),
+            0 => self.source = text(self.edition, rng, units),
+            1 => self.computer = text(self.edition, rng, units),
+            2 => self.push_string(rng, units),
             3 => {
                 self.strings.clear();
                 self.fields.num_strings = 0;
                 let count = rng.pick(&[255, 256, 256]);
                 for _ in 0..count {
-                    let units = rng.range(0, n / 2 / count);
+                    let units = rng.range(0, units / count);
                     self.push_string(rng, units);
                 }
             }
@@ -228,21 +284,22 @@ impl Made {
     /// it is shorter.
     pub fn fit(&mut self, rng: &mut Random, length: usize) {
         let more = length.saturating_sub(self.length());
-        let longer = text(rng, more / 2);
+        let zero = zero(self.edition);
+        let longer = text(self.edition, rng, more / zero.len());
         match rng.below(3) {
             0 => self.source.extend(longer),
-            2 if self.strings.ends_with(&[0, 0]) => {
-                self.strings.truncate(self.strings.len() - 2);
+            2 if self.strings.ends_with(zero) => {
+                self.strings.truncate(self.strings.len() - zero.len());
                 self.strings.extend(longer);
-                self.strings.extend([0, 0]);
+                self.strings.extend(zero);
             }
             _ => self.computer.extend(longer),
         }
     }
 
     /// An event with one to three things changed, mostly for the worse.
-    pub fn bad(rng: &mut Random, size: Size) -> Made {
-        let mut made = Made::good(rng, size);
+    pub fn bad(edition: Edition, rng: &mut Random, size: Size) -> Made {
+        let mut made = Made::good(edition, rng, size);
         for _ in 0..rng.range(1, 3) {
             made.corrupt(rng);
         }
@@ -250,6 +307,7 @@ impl Made {
     }
 
     fn corrupt(&mut self, rng: &mut Random) {
+        let edition = self.edition;
         let f = &mut self.fields;
         match rng.below(17) {
             0 => {
@@ -263,10 +321,10 @@ impl Made {
             16 => f.reserved_flags = 0x8000,
             2 => f.num_strings = rng.pick(&[0, 1, 255, 256, 257, 258, 0x8000, 0xFFFF]),
             3 => f.num_strings = f.num_strings.wrapping_add(rng.pick(&[1, 0xFFFF])),
-            4 => corrupt_text(rng, &mut self.source),
-            5 => corrupt_text(rng, &mut self.computer),
-            6 => corrupt_text(rng, &mut self.strings),
-            7 => self.strings.extend([0, 0]),
+            4 => corrupt_text(edition, rng, &mut self.source),
+            5 => corrupt_text(edition, rng, &mut self.computer),
+            6 => corrupt_text(edition, rng, &mut self.strings),
+            7 => self.strings.extend(zero(edition)),
             8..=11 => self.sid = corrupt_sid(rng),
             12 => {
                 let len = rng.pick(&[MAX_DATA, MAX_DATA + 1, MAX_DATA + 2, 65_536, 70_000]);
@@ -282,9 +340,9 @@ impl Made {
             }
             14 => {
                 // About what 16 bits count, in bytes; seldom about the limit.
-                let most = rng.pick(&[33_000, 33_000, 33_000, 33_000, 33_000, 131_200]);
-                let units = rng.range(most - 300, most);
-                self.computer = text(rng, units);
+                let most = rng.pick(&[66_000, 66_000, 66_000, 66_000, 66_000, 262_400]);
+                let units = rng.range(most - 600, most) / width(edition);
+                self.computer = text(edition, rng, units);
             }
             _ => f.record_number = u32::MAX,
         }
@@ -321,7 +379,8 @@ impl Made {
     }
 
     fn names_end(&self) -> usize {
-        56 + self.source.len() + 2 + self.computer.len() + 2
+        let width = width(self.edition);
+        56 + self.source.len() + width + self.computer.len() + width
     }
 
     /// The gap after the names, as the writer pads.
@@ -346,12 +405,17 @@ impl Made {
     }
 
     /// A gap after the names with which the record is not too long: the padding,
-    /// none, a few bytes, or any number (Rule 2.12).
-    fn some_gap(&self, rng: &mut Random) -> usize {
+    /// none, a few bytes, or any number (Rule 2.12). A small record stays short: it
+    /// may be data of another one, and some families go over each of its bytes.
+    fn some_gap(&self, rng: &mut Random, size: Size) -> usize {
+        let most = match size {
+            Size::Small => 2000,
+            _ => MAX_LENGTH,
+        };
         let gap = match rng.below(8) {
             0..4 => self.padding(),
             4 => 0,
-            _ if rng.once_in(100) => rng.below(MAX_LENGTH),
+            _ if rng.once_in(100) => rng.below(most),
             _ => rng.range(0, 40),
         };
         if self.length_with(gap) <= MAX_LENGTH {
@@ -392,9 +456,9 @@ impl Made {
         out.extend((self.data.len() as u32).to_le_bytes());
         out.extend(data_offset);
         out.extend(&self.source);
-        out.extend([0, 0]);
+        out.extend(zero(self.edition));
         out.extend(&self.computer);
-        out.extend([0, 0]);
+        out.extend(zero(self.edition));
         out.extend(ignored(sid_at - out.len()));
         out.extend(&self.sid);
         out.extend(&self.strings);
@@ -426,16 +490,17 @@ impl Made {
     }
 }
 
-fn corrupt_text(rng: &mut Random, bytes: &mut Vec<u8>) {
+fn corrupt_text(edition: Edition, rng: &mut Random, bytes: &mut Vec<u8>) {
+    let zero = zero(edition);
     match rng.below(4) {
         0 => bytes.push(rng.bits() as u8),
         1 => {
             bytes.pop();
         }
         2 => {
-            let at = rng.below(bytes.len() / 2 + 1) * 2;
+            let at = rng.below(bytes.len() / zero.len() + 1) * zero.len();
             let tail = bytes.split_off(at.min(bytes.len()));
-            bytes.extend([0, 0]);
+            bytes.extend(zero);
             bytes.extend(tail);
         }
         _ => {
@@ -450,19 +515,22 @@ fn corrupt_text(rng: &mut Random, bytes: &mut Vec<u8>) {
 }
 
 /// A good record with any bytes where they are ignored.
-pub fn record(rng: &mut Random, size: Size) -> Vec<u8> {
-    let made = Made::good(rng, size);
-    let gap = made.some_gap(rng);
+pub fn record(edition: Edition, rng: &mut Random, size: Size) -> Vec<u8> {
+    let made = Made::good(edition, rng, size);
+    let gap = made.some_gap(rng, size);
     made.gapped(gap, Some(rng))
 }
 
 /// A record of the largest Length with no gap after the names. Padded, it would be
 /// too long.
-pub fn longest_without_gap(rng: &mut Random) -> Vec<u8> {
+pub fn longest_without_gap(edition: Edition, rng: &mut Random) -> Vec<u8> {
+    // The names end two bytes behind a multiple of 4.
+    let width = width(edition);
+    let units = (200_698 - 56 - 2 * width) / width;
     let made = Made {
-        source: text(rng, 100_319),
+        source: text(edition, rng, units),
         data: rng.bytes(MAX_DATA - 2),
-        ..Made::default()
+        ..Made::new(edition)
     };
     let record = made.gapped(0, Some(rng));
     assert_eq!((record.len(), made.length()), (MAX_LENGTH, TOO_LONG));
@@ -471,31 +539,32 @@ pub fn longest_without_gap(rng: &mut Random) -> Vec<u8> {
 
 /// A record of this Length in which a text runs up to Length2, and all else is
 /// right; and its refusal.
-pub fn unended(rng: &mut Random, length: usize) -> (Vec<u8>, u32) {
-    let mut made = Made::good(rng, Size::Small);
+pub fn unended(edition: Edition, rng: &mut Random, length: usize) -> (Vec<u8>, u32) {
+    let width = width(edition);
+    let mut made = Made::good(edition, rng, Size::Small);
     made.data.clear();
     made.push_string(rng, 0);
     let strings_at = aligned(made.names_end()) + made.sid.len();
     let (from, refusal) = rng.pick(&[
         (56, 9),
-        (56 + made.source.len() + 2, 9),
-        (strings_at + made.strings.len() - 2, 11),
+        (56 + made.source.len() + width, 9),
+        (strings_at + made.strings.len() - width, 11),
     ]);
     let mut bytes = made.encode(Some(rng));
     bytes.truncate(from);
-    bytes.extend(text(rng, (length - 4 - from) / 2));
+    bytes.extend(text(edition, rng, (length - 4 - from) / width));
     bytes.extend((length as u32).to_le_bytes());
     put(&mut bytes, 0, 4, length as u32);
     (bytes, refusal)
 }
 
 /// A good record whose data is records and pieces of records.
-pub fn nested(rng: &mut Random) -> Vec<u8> {
-    let mut outer = Made::good(rng, Size::Small);
+pub fn nested(edition: Edition, rng: &mut Random) -> Vec<u8> {
+    let mut outer = Made::good(edition, rng, Size::Small);
     let lead = rng.below(4);
     outer.data = rng.bytes(lead);
     for _ in 0..rng.range(1, 3) {
-        let inner = record(rng, Size::Small);
+        let inner = record(edition, rng, Size::Small);
         let len = if rng.once_in(3) {
             rng.below(inner.len())
         } else {
@@ -590,20 +659,26 @@ pub fn damage(rng: &mut Random, bytes: &mut Vec<u8>) {
 
 /// A log and the places between its records. Broken logs have garbage between
 /// or in them; then the places are only likely ones.
-pub fn log(rng: &mut Random, count: usize, size: Size, broken: bool) -> (Vec<u8>, Vec<usize>) {
+pub fn log(
+    edition: Edition,
+    rng: &mut Random,
+    count: usize,
+    size: Size,
+    broken: bool,
+) -> (Vec<u8>, Vec<usize>) {
     let mut bytes = Vec::new();
     let mut places = vec![0];
     let first = number(rng);
     let numbered = rng.once_in(2);
     let bad = if broken { rng.below(count + 1) } else { count };
     for i in 0..count {
-        let mut made = Made::good(rng, size);
+        let mut made = Made::good(edition, rng, size);
         made.fields.record_number = match numbered {
             true => first.wrapping_add(i as u32),
             false => rng.below(5) as u32,
         };
         let mut record = match rng.once_in(8) && size == Size::Small {
-            true => nested(rng),
+            true => nested(edition, rng),
             false => made.encode(Some(rng)),
         };
         if i == bad {
@@ -632,15 +707,15 @@ pub fn log(rng: &mut Random, count: usize, size: Size, broken: bool) -> (Vec<u8>
 
 /// Good records that have exactly so many bytes together, a multiple of 4 and at
 /// least 1,024.
-pub fn records_of(rng: &mut Random, len: usize) -> Vec<u8> {
+pub fn records_of(edition: Edition, rng: &mut Random, len: usize) -> Vec<u8> {
     let mut bytes = Vec::with_capacity(len);
     // The last two share the rest, so that neither is too short or too long.
     while len - bytes.len() > 2 * MAX_LENGTH {
-        bytes.extend(record(rng, Size::Large));
+        bytes.extend(record(edition, rng, Size::Large));
     }
     while len - bytes.len() > 4096 {
         let size = rng.pick(&[Size::Small, Size::Medium]);
-        let next = record(rng, size);
+        let next = record(edition, rng, size);
         if len - bytes.len() < next.len() + 1024 || rng.once_in(40) {
             break;
         }
@@ -648,7 +723,7 @@ pub fn records_of(rng: &mut Random, len: usize) -> Vec<u8> {
     }
     let half = (len - bytes.len()) / 8 * 4;
     for length in [half, len - bytes.len() - half] {
-        let mut made = Made::good(rng, Size::Small);
+        let mut made = Made::good(edition, rng, Size::Small);
         made.fit(rng, length);
         bytes.extend(made.encode(Some(rng)));
     }
@@ -657,10 +732,10 @@ pub fn records_of(rng: &mut Random, len: usize) -> Vec<u8> {
 }
 
 /// Where the good records of a batch start, from the front.
-pub fn starts(batch: &[u8]) -> Vec<usize> {
+pub fn starts(edition: Edition, batch: &[u8]) -> Vec<usize> {
     let mut starts = Vec::new();
     let mut at = 0;
-    while let Ok(length) = plain::judge(batch, at) {
+    while let Ok(length) = plain::judge(edition, batch, at) {
         starts.push(at);
         at += length;
     }
@@ -668,7 +743,7 @@ pub fn starts(batch: &[u8]) -> Vec<usize> {
 }
 
 /// A buffer with a plausible head over a body with many zero units.
-pub fn noise(rng: &mut Random) -> Vec<u8> {
+pub fn noise(edition: Edition, rng: &mut Random) -> Vec<u8> {
     let length = 64 + 4 * rng.below(30);
     let few = rng.range(2, 5) as u64;
     let mut out: Vec<u8> = (0..length)
@@ -687,20 +762,22 @@ pub fn noise(rng: &mut Random) -> Vec<u8> {
     put_some(26, 2, 0);
     put_some(40, 4, 0);
     put_some(48, 4, 0);
-    place_parts(rng, &mut out);
+    place_parts(edition, rng, &mut out);
     out
 }
 
 /// Puts the parts where they belong, as far as the names and strings end.
-fn place_parts(rng: &mut Random, out: &mut [u8]) {
+fn place_parts(edition: Edition, rng: &mut Random, out: &mut [u8]) {
     let length = out.len();
-    let zero = |from: usize, out: &[u8]| {
-        (from..length - 5)
-            .step_by(2)
-            .find(|at| out[*at..*at + 2] == [0, 0])
-            .map(|at| at + 2)
+    let zero = zero(edition);
+    let after_zero = |from: usize, out: &[u8]| {
+        (from..length - 3 - zero.len())
+            .step_by(zero.len())
+            .find(|at| out[*at..].starts_with(zero))
+            .map(|at| at + zero.len())
     };
-    let Some(names_end) = zero(56, out).and_then(|at| zero(at, out)) else {
+    let names_end = after_zero(56, out).and_then(|at| after_zero(at, out));
+    let Some(names_end) = names_end else {
         return;
     };
     let mut at = match rng.below(3) {
@@ -723,7 +800,7 @@ fn place_parts(rng: &mut Random, out: &mut [u8]) {
     put(out, 26, 2, count as u32);
     put(out, 36, 4, at as u32);
     for _ in 0..count {
-        match zero(at, out) {
+        match after_zero(at, out) {
             Some(after) => at = after,
             None => return,
         }

@@ -1,5 +1,6 @@
-//! Both libraries on every family of inputs. `COMPARE_ROUNDS` asks for more
-//! rounds of each family than the default, which judges a million buffers.
+//! Both libraries on every family of inputs in both editions. `COMPARE_ROUNDS`
+//! asks for more rounds of each family than the default, which judges a million
+//! buffers in Unicode, and half as many in ANSI.
 
 use std::env;
 use std::io::{stdout, Write};
@@ -8,10 +9,11 @@ use std::sync::Mutex;
 use std::thread;
 use std::time::Instant;
 
-use compare::check::{Call, Tally, CASES, FLAGS, STATUSES};
+use compare::check::{Call, Case, Tally, CASES, FLAGS, STATUSES};
 use compare::{round, FAMILIES};
+use plain::Edition;
 
-/// The fewest rounds of each family.
+/// The fewest rounds of each family in Unicode; in ANSI they are half as many.
 const ROUNDS: u64 = 250;
 /// The fewest buffers that they judge.
 const BUFFERS: u64 = 1_000_000;
@@ -21,6 +23,7 @@ const THREADS: usize = 2;
 /// does not, and stops the other thread.
 struct Watch<'a> {
     stop: &'a AtomicBool,
+    edition: Edition,
     family: usize,
     number: u64,
 }
@@ -30,7 +33,10 @@ impl Drop for Watch<'_> {
         if thread::panicking() {
             self.stop.store(true, Relaxed);
             let (name, _) = FAMILIES[self.family];
-            eprintln!("that was family {name}, round {}", self.number);
+            let Watch {
+                edition, number, ..
+            } = self;
+            eprintln!("that was family {name}, round {number}, {edition:?}");
         }
     }
 }
@@ -38,12 +44,17 @@ impl Drop for Watch<'_> {
 #[test]
 fn both_answer_the_same() {
     let rounds = rounds();
+    all_rounds(Edition::Unicode, rounds, BUFFERS);
+    all_rounds(Edition::Ansi, rounds / 2, BUFFERS / 2);
+}
+
+fn all_rounds(edition: Edition, rounds: u64, fewest: u64) {
     let start = Instant::now();
-    let tallies = run(rounds);
+    let tallies = run(edition, rounds);
     let mut total = Tally::default();
     // Not by print!, which is shown only for a test that fails.
     let mut out = stdout().lock();
-    writeln!(out).unwrap();
+    writeln!(out, "\n{edition:?}").unwrap();
     for ((tally, seconds), (name, _)) in tallies.iter().zip(FAMILIES) {
         total.add(tally);
         writeln!(out, "{name:8} {}, {seconds:.1} s", counts(tally)).unwrap();
@@ -53,8 +64,8 @@ fn both_answer_the_same() {
     writeln!(out, "{rounds} rounds: {counts}, {seconds:.1} s").unwrap();
     drop(out);
     let buffers = total.buffers;
-    assert!(buffers >= BUFFERS, "only {buffers} buffers");
-    reached(&total);
+    assert!(buffers >= fewest, "only {buffers} buffers");
+    reached(edition, &total);
 }
 
 /// Never fewer than the default, so that a variable left behind does not make
@@ -67,7 +78,7 @@ fn rounds() -> u64 {
 }
 
 /// All rounds of all families; what each family compared, and its seconds.
-fn run(rounds: u64) -> Vec<(Tally, f64)> {
+fn run(edition: Edition, rounds: u64) -> Vec<(Tally, f64)> {
     let work = AtomicU64::new(0);
     let stop = AtomicBool::new(false);
     let tallies = Mutex::new(vec![(Tally::default(), 0.0); FAMILIES.len()]);
@@ -81,11 +92,12 @@ fn run(rounds: u64) -> Vec<(Tally, f64)> {
             let stop = &stop;
             let _watch = Watch {
                 stop,
+                edition,
                 family,
                 number,
             };
             let begun = Instant::now();
-            let tally = round(family, number);
+            let tally = round(edition, family, number);
             let mut tallies = tallies.lock().unwrap();
             tallies[family].0.add(&tally);
             tallies[family].1 += begun.elapsed().as_secs_f64();
@@ -105,8 +117,17 @@ fn counts(tally: &Tally) -> String {
     format!("{buffers:7} buffers, {judgements:7} judgements ({good} good), {calls} calls")
 }
 
+/// The cases of the listing program, which lists Unicode.
+const PROGRAM: [Case; 4] = [
+    Case::FullProgram,
+    Case::FullProgramRefused,
+    Case::EmptyProgram,
+    Case::FullProgramRecord,
+];
+
 /// Every answer of every call occurred.
-fn reached(total: &Tally) {
+fn reached(edition: Edition, total: &Tally) {
+    let program = edition == Edition::Unicode;
     let reading: Vec<u32> = (0..=13).collect();
     let writing = [0, 2, 6, 7, 8, 9, 10, 11, 12, 15];
     let expected: [(Call, Vec<u32>); 10] = [
@@ -116,7 +137,13 @@ fn reached(total: &Tally) {
         (Call::NextString, vec![0, 17]),
         (Call::Walk, reading.clone()),
         (Call::WalkBack, reading.clone()),
-        (Call::Program, [&reading[..], &[16]].concat()),
+        (
+            Call::Program,
+            match program {
+                true => [&reading[..], &[16]].concat(),
+                false => vec![],
+            },
+        ),
         (Call::Write, writing.to_vec()),
         (Call::Append, [&writing[..], &[1, 14]].concat()),
         (Call::Listing, vec![0, 15]),
@@ -124,7 +151,8 @@ fn reached(total: &Tally) {
     for (call, numbers) in expected {
         for number in 0..18 {
             let met = total.met(call, number) > 0;
-            assert_eq!(met, numbers.contains(&number), "{call:?} {number}");
+            let expected = numbers.contains(&number);
+            assert_eq!(met, expected, "{edition:?} {call:?} {number}");
         }
     }
     for (kind, counts) in total.statuses.iter().enumerate() {
@@ -136,10 +164,16 @@ fn reached(total: &Tally) {
                 _ => true,
             };
             let flags = FLAGS.get(kind);
-            assert_eq!(*count > 0, possible, "flags {flags:?} status {status:#x}");
+            assert_eq!(
+                *count > 0,
+                possible,
+                "{edition:?} flags {flags:?} status {status:#x}"
+            );
         }
     }
     for case in CASES {
-        assert!(total.cases[case as usize] > 0, "{case:?}");
+        let met = total.cases[case as usize] > 0;
+        let possible = program || !PROGRAM.contains(&case);
+        assert_eq!(met, possible, "{edition:?} {case:?}");
     }
 }

@@ -42,8 +42,8 @@ fn refused_with_10_or_13() {
         let record = record(sid);
         let end = record.len();
         let proved = [
-            eventlog::step(&record, 0),
-            eventlog::step_back(&record, end),
+            eventlog::step(eventlog::Edition::Unicode, &record, 0),
+            eventlog::step_back(eventlog::Edition::Unicode, &record, end),
         ];
         for step in proved {
             assert_eq!(
@@ -51,7 +51,11 @@ fn refused_with_10_or_13() {
                 Err(refused)
             );
         }
-        let plain = [plain::judge(&record, 0), plain::judge_back(&record, end)];
+        let unicode = plain::Edition::Unicode;
+        let plain = [
+            plain::judge(unicode, &record, 0),
+            plain::judge_back(unicode, &record, end),
+        ];
         for judged in plain {
             assert_eq!(judged.map_err(|why| (why.number, why.field)), Err(refused));
         }

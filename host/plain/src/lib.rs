@@ -1,8 +1,8 @@
-//! Windows event records (EVENTLOGRECORD of MS-EVEN 2.2.3), Unicode only.
+//! Windows event records (EVENTLOGRECORD of MS-EVEN 2.2.3), Unicode and ANSI.
 //!
 //! The calls of Rule 1.4 of `docs/SPECIFICATION.md`: steps and walks in both
 //! directions, writing, appending, reads of a log, the listing, the card, and
-//! windows-1252. Every part
+//! windows-1252. The caller says which [`Edition`] the records have. Every part
 //! handed back borrows the caller's bytes; only [`listing`] allocates.
 //!
 //! The crate `simple` is this library with the feature `simple-search`: all the
@@ -12,6 +12,7 @@
 #![warn(missing_docs)]
 
 pub mod card;
+mod edition;
 mod judge;
 mod layout;
 mod listing;
@@ -25,6 +26,7 @@ mod walk;
 pub mod windows_1252;
 mod write;
 
+pub use edition::Edition;
 pub use judge::{judge, judge_back};
 pub use layout::{
     refused, Fields, Refused, MAX_DATA, MAX_LENGTH, MAX_STRINGS, MIN_LENGTH, SIGNATURE, XML_FLAG,

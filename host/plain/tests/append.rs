@@ -3,6 +3,7 @@
 mod common;
 
 use common::*;
+use plain::Edition::Unicode;
 use plain::*;
 
 #[test]
@@ -11,9 +12,9 @@ fn numbers_count_on() {
     let mut used = 0;
     for (event, number, length) in [(t_event(), 1, 104), (s_event(), 2, 64), (t_event(), 3, 104)] {
         let before = used;
-        used = append(&mut log, used, &event).unwrap();
+        used = append(Unicode, &mut log, used, &event).unwrap();
         assert_eq!(used, before + length);
-        let record = step(&log, before).unwrap();
+        let record = step(Unicode, &log, before).unwrap();
         assert_eq!(record.fields.record_number, number);
         let expected = Event {
             fields: Fields {
@@ -22,11 +23,11 @@ fn numbers_count_on() {
             },
             ..event
         };
-        assert_eq!(log[before..used], written(&expected));
+        assert_eq!(log[before..used], written(Unicode, &expected));
         assert!(log[used..].iter().all(|b| *b == 0xAA));
     }
     assert_eq!(
-        walk(&log[..used]),
+        walk(Unicode, &log[..used]),
         Walked {
             count: 3,
             refusal: 0,
@@ -40,11 +41,11 @@ fn numbers_count_on() {
 fn numbers_wrap() {
     let mut log = with32(&S, 8, u32::MAX);
     log.resize(128, 0);
-    assert_eq!(append(&mut log, 64, &s_event()), Ok(128));
-    assert_eq!(step(&log, 64).unwrap().fields.record_number, 0);
+    assert_eq!(append(Unicode, &mut log, 64, &s_event()), Ok(128));
+    assert_eq!(step(Unicode, &log, 64).unwrap().fields.record_number, 0);
     log.resize(192, 0);
-    assert_eq!(append(&mut log, 128, &s_event()), Ok(192));
-    assert_eq!(step(&log, 128).unwrap().fields.record_number, 1);
+    assert_eq!(append(Unicode, &mut log, 128, &s_event()), Ok(192));
+    assert_eq!(step(Unicode, &log, 128).unwrap().fields.record_number, 1);
 }
 
 #[test]
@@ -62,12 +63,12 @@ fn refusals_change_nothing() {
     let mut expect = |used, event: &Event, number| {
         // The field of 14 is that of the step from the rear.
         let field = if number == 14 {
-            step_back(&log, used).unwrap_err().field
+            step_back(Unicode, &log, used).unwrap_err().field
         } else {
             0
         };
         let refused = Err(Refused { number, field });
-        assert_eq!(append(&mut log, used, event), refused);
+        assert_eq!(append(Unicode, &mut log, used, event), refused);
         assert_eq!(log, before);
     };
     expect(232, &wrong, 1);
@@ -77,13 +78,13 @@ fn refusals_change_nothing() {
     expect(168, &wrong, 6);
     expect(0, &wrong, 6);
     expect(168, &s_event(), 15);
-    assert_eq!(number(append(&mut [], 0, &s_event())), Err(15));
-    assert_eq!(number(append(&mut [], 1, &s_event())), Err(1));
+    assert_eq!(number(append(Unicode, &mut [], 0, &s_event())), Err(15));
+    assert_eq!(number(append(Unicode, &mut [], 1, &s_event())), Err(1));
     // Only the last record is judged.
     let mut log = [0xFF; 200];
     log[36..100].copy_from_slice(&S);
-    assert_eq!(append(&mut log, 100, &s_event()), Ok(164));
-    assert_eq!(step(&log, 100).unwrap().fields.record_number, 8);
+    assert_eq!(append(Unicode, &mut log, 100, &s_event()), Ok(164));
+    assert_eq!(step(Unicode, &log, 100).unwrap().fields.record_number, 8);
 }
 
 #[test]
@@ -98,6 +99,6 @@ fn broken_ends() {
         let mut log = s_t();
         log[64 + at] = byte;
         let refused = Err(Refused { number: 14, field });
-        assert_eq!(append(&mut log, 168, &s_event()), refused);
+        assert_eq!(append(Unicode, &mut log, 168, &s_event()), refused);
     }
 }

@@ -3,6 +3,7 @@
 mod common;
 
 use common::*;
+use plain::Edition::Unicode;
 use plain::*;
 
 /// An event whose record is 200,696 + 61,440 + 4 bytes long with 100,318 units
@@ -20,18 +21,18 @@ fn longest_record() {
     let units = [b'a', 0].repeat(100_320);
     let data = vec![7; 61_440];
 
-    let record = written(&long(&units[..200_636], &data));
+    let record = written(Unicode, &long(&units[..200_636], &data));
     assert_eq!(record.len(), 262_140);
-    assert_eq!(judge(&record, 0), Ok(262_140));
-    assert_eq!(judge_back(&record, 262_140), Ok(262_140));
-    assert_eq!(slow(&record, 0), Ok(262_140));
-    assert_eq!(slow_back(&record, 262_140), Ok(262_140));
-    assert_eq!(event_data(&record, 0), data);
-    assert_eq!(source_name(&record, 0), &units[..200_636]);
+    assert_eq!(judge(Unicode, &record, 0), Ok(262_140));
+    assert_eq!(judge_back(Unicode, &record, 262_140), Ok(262_140));
+    assert_eq!(slow(Unicode, &record, 0), Ok(262_140));
+    assert_eq!(slow_back(Unicode, &record, 262_140), Ok(262_140));
+    assert_eq!(event_data(Unicode, &record, 0), data);
+    assert_eq!(source_name(Unicode, &record, 0), &units[..200_636]);
 
     let mut out = vec![0xAA; 270_000];
     for n in [200_638, 200_640] {
-        assert_eq!(write(&long(&units[..n], &data), &mut out), Err(2));
+        assert_eq!(write(Unicode, &long(&units[..n], &data), &mut out), Err(2));
     }
     assert!(out.iter().all(|b| *b == 0xAA));
 
@@ -42,8 +43,8 @@ fn longest_record() {
     longer.extend(262_144u32.to_le_bytes());
     let longer = with32(&longer, 0, 262_144);
     assert_eq!(longer.len(), 262_144);
-    assert_eq!(number(judge(&longer, 0)), Err(2));
-    assert_eq!(number(judge_back(&longer, 262_144)), Err(2));
+    assert_eq!(number(judge(Unicode, &longer, 0)), Err(2));
+    assert_eq!(number(judge_back(Unicode, &longer, 262_144)), Err(2));
 }
 
 /// Every part is past what 16 bits count, but for the names' start.
@@ -77,10 +78,10 @@ fn longest_record_of_every_part() {
         strings: &run,
         event_data: &data,
     };
-    let record = written(&event);
+    let record = written(Unicode, &event);
     assert_eq!(record.len(), 262_140);
-    let found = step(&record, 0).unwrap();
-    assert_eq!(step_back(&record, 262_140), Ok(found));
+    let found = step(Unicode, &record, 0).unwrap();
+    assert_eq!(step_back(Unicode, &record, 262_140), Ok(found));
     assert_eq!((found.start, found.length), (0, 262_140));
     assert_eq!((found.source_name, found.source_name_at), (&source[..], 56));
     let computer_at = 56 + 80_000 + 2;
@@ -96,8 +97,8 @@ fn longest_record_of_every_part() {
     );
     let mut place = found.strings_at;
     for (k, expected) in strings.iter().enumerate() {
-        assert_eq!(string(&record, 0, k as u32), expected);
-        let next = next_string(&record, (100_132, run.len()), place);
+        assert_eq!(string(Unicode, &record, 0, k as u32), expected);
+        let next = next_string(Unicode, &record, (100_132, run.len()), place);
         assert_eq!(
             (next.refusal, next.at, next.len),
             (0, place, expected.len())
@@ -105,17 +106,17 @@ fn longest_record_of_every_part() {
         place = next.next;
     }
     assert_eq!(place, 200_694);
-    assert_eq!(string_refusal(&record, 0, 256).number, 17);
+    assert_eq!(string_refusal(Unicode, &record, 0, 256).number, 17);
 
     // Behind S, as the log's next record, and served from both ends.
     let mut log = vec![0xAA; 64 + 262_140];
     log[..64].copy_from_slice(&S);
     assert_eq!(
-        number(append(&mut log[..64 + 262_139], 64, &event)),
+        number(append(Unicode, &mut log[..64 + 262_139], 64, &event)),
         Err(15)
     );
     assert!(log[64..].iter().all(|b| *b == 0xAA));
-    assert_eq!(append(&mut log, 64, &event), Ok(64 + 262_140));
+    assert_eq!(append(Unicode, &mut log, 64, &event), Ok(64 + 262_140));
     assert_eq!(log[64..], with32(&record, 8, 8));
     let walked = |at| Walked {
         count: 2,
@@ -123,16 +124,16 @@ fn longest_record_of_every_part() {
         field: 0,
         at,
     };
-    assert_eq!(walk(&log), walked(64 + 262_140));
-    assert_eq!(walk_back(&log), walked(0));
+    assert_eq!(walk(Unicode, &log), walked(64 + 262_140));
+    assert_eq!(walk_back(Unicode, &log), walked(0));
     let mut out = vec![0xAA; 262_140];
     for (flags, at) in [(5, 64), (9, 64 + 262_140)] {
         let handle = Handle {
             place: Place::Boundary(at),
         };
-        let answer = handle.read(&log, flags, 0, 262_139, &mut out);
+        let answer = handle.read(Unicode, &log, flags, 0, 262_139, &mut out);
         assert_eq!((answer.status, answer.needed), (0xC000_0023, 262_140));
-        let answer = handle.read(&log, flags, 0, 262_140, &mut out);
+        let answer = handle.read(Unicode, &log, flags, 0, 262_140, &mut out);
         assert_eq!((answer.status, answer.read), (0, 262_140));
         assert_eq!(out, log[64..]);
         out.fill(0xAA);
@@ -151,8 +152,8 @@ fn longest_record_of_every_part() {
             strings: &run[4 - more..],
             ..event
         };
-        assert_eq!(write(&name, &mut out), answer);
-        assert_eq!(write(&string, &mut out), answer);
+        assert_eq!(write(Unicode, &name, &mut out), answer);
+        assert_eq!(write(Unicode, &string, &mut out), answer);
     }
 }
 
@@ -176,10 +177,10 @@ fn texts_that_run_up_to_length2() {
             let record = running_on(length, body, strings);
             assert_eq!(record[length - 4..length - 2], [0, 0]);
             assert_eq!(record.len(), length);
-            let why = judge(&record, 0).unwrap_err();
-            assert_eq!(slow(&record, 0), Err(why));
-            assert_eq!(judge_back(&record, length), Err(why));
-            assert_eq!(slow_back(&record, length), Err(why));
+            let why = judge(Unicode, &record, 0).unwrap_err();
+            assert_eq!(slow(Unicode, &record, 0), Err(why));
+            assert_eq!(judge_back(Unicode, &record, length), Err(why));
+            assert_eq!(slow_back(Unicode, &record, length), Err(why));
             // In a log too, whose next bytes look like more of the record.
             let log = [&S[..], &record, &S].concat();
             let stopped = |at| Walked {
@@ -188,8 +189,8 @@ fn texts_that_run_up_to_length2() {
                 field: why.field,
                 at,
             };
-            assert_eq!(walk(&log), stopped(64));
-            assert_eq!(walk_back(&log), stopped(64 + length));
+            assert_eq!(walk(Unicode, &log), stopped(64));
+            assert_eq!(walk_back(Unicode, &log), stopped(64 + length));
             why.number
         };
         // Neither name ends; only the source name does; the names do.
@@ -199,17 +200,17 @@ fn texts_that_run_up_to_length2() {
         // The first of two strings ends.
         let mut record = running_on(length, &[0; 4], 2);
         record[70..72].fill(0);
-        assert_eq!(number(judge(&record, 0)), Err(11));
-        assert_eq!(number(judge_back(&record, length)), Err(11));
+        assert_eq!(number(judge(Unicode, &record, 0)), Err(11));
+        assert_eq!(number(judge_back(Unicode, &record, length)), Err(11));
 
         // With a zero unit right before Length2 each of them is good.
         for (body, strings, zeros) in [(&[][..], 0, 4), (&[0; 2][..], 0, 2), (&[0; 4][..], 1, 2)] {
             let mut record = running_on(length, body, strings);
             record[length - 4 - zeros..length - 4].fill(0);
-            assert_eq!(judge(&record, 0), Ok(length));
-            assert_eq!(judge_back(&record, length), Ok(length));
-            assert_eq!(slow(&record, 0), Ok(length));
-            assert_eq!(slow_back(&record, length), Ok(length));
+            assert_eq!(judge(Unicode, &record, 0), Ok(length));
+            assert_eq!(judge_back(Unicode, &record, length), Ok(length));
+            assert_eq!(slow(Unicode, &record, 0), Ok(length));
+            assert_eq!(slow_back(Unicode, &record, length), Ok(length));
         }
     }
 }
@@ -218,9 +219,12 @@ fn texts_that_run_up_to_length2() {
 fn output_bounds() {
     for (event, bytes) in [(s_event(), &S[..]), (t_event(), &T[..])] {
         let mut out = [0xAA; 120];
-        assert_eq!(write(&event, &mut out[..bytes.len() - 1]), Err(15));
+        assert_eq!(write(Unicode, &event, &mut out[..bytes.len() - 1]), Err(15));
         assert_eq!(out, [0xAA; 120]);
-        assert_eq!(write(&event, &mut out[..bytes.len()]), Ok(bytes.len()));
+        assert_eq!(
+            write(Unicode, &event, &mut out[..bytes.len()]),
+            Ok(bytes.len())
+        );
         assert_eq!(&out[..bytes.len()], bytes);
         assert!(out[bytes.len()..].iter().all(|b| *b == 0xAA));
     }
@@ -237,37 +241,43 @@ fn string_counts() {
         strings: &run[..2 * usize::from(count)],
         ..Event::default()
     };
-    let most = written(&event(256));
+    let most = written(Unicode, &event(256));
     assert_eq!(most.len(), 60 + 512 + 4);
-    assert_eq!(judge(&most, 0), Ok(576));
-    assert_eq!(string_refusal(&most, 0, 255).number, 0);
-    assert_eq!(string_refusal(&most, 0, 256).number, 17);
-    assert_eq!(write(&event(257), &mut [0; 1000]), Err(8));
+    assert_eq!(judge(Unicode, &most, 0), Ok(576));
+    assert_eq!(string_refusal(Unicode, &most, 0, 255).number, 0);
+    assert_eq!(string_refusal(Unicode, &most, 0, 256).number, 17);
+    assert_eq!(write(Unicode, &event(257), &mut [0; 1000]), Err(8));
 
     let more = with16(&most, 26, 257);
-    let both = (number(judge(&more, 0)), number(judge_back(&more, 576)));
+    let both = (
+        number(judge(Unicode, &more, 0)),
+        number(judge_back(Unicode, &more, 576)),
+    );
     assert_eq!(both, (Err(8), Err(8)));
     // One fewer leaves two bytes that nothing accounts for; the gap takes them.
     let fewer = with16(&most, 26, 255);
-    assert_eq!(judge(&fewer, 0), Ok(576));
+    assert_eq!(judge(Unicode, &fewer, 0), Ok(576));
     let fewer = with16(&most, 26, 254);
-    assert_eq!(number(judge(&fewer, 0)), Err(13));
+    assert_eq!(number(judge(Unicode, &fewer, 0)), Err(13));
 }
 
 #[test]
 fn data_lengths() {
     let data = vec![0; 61_441];
-    assert_eq!(written(&long(&[], &data[..61_440])).len(), 61_504);
-    assert_eq!(write(&long(&[], &data), &mut vec![0; 70_000]), Err(12));
+    assert_eq!(written(Unicode, &long(&[], &data[..61_440])).len(), 61_504);
+    assert_eq!(
+        write(Unicode, &long(&[], &data), &mut vec![0; 70_000]),
+        Err(12)
+    );
 
     // 61,441 bytes with everything else right: here the bound binds the reader.
-    let mut record = written(&long(&[], &data[..61_440]));
+    let mut record = written(Unicode, &long(&[], &data[..61_440]));
     record.truncate(60 + 61_440);
     record.extend([0; 4]);
     record.extend(61_508u32.to_le_bytes());
     let record = with32(&with32(&record, 0, 61_508), 48, 61_441);
-    assert_eq!(number(judge(&record, 0)), Err(12));
-    assert_eq!(number(judge_back(&record, 61_508)), Err(12));
+    assert_eq!(number(judge(Unicode, &record, 0)), Err(12));
+    assert_eq!(number(judge_back(Unicode, &record, 61_508)), Err(12));
 }
 
 fn with_sid(sid: &[u8]) -> Event<'_> {
@@ -280,29 +290,33 @@ fn sid_lengths() {
         let mut sid = vec![1, n];
         sid.resize(8 + 4 * usize::from(n), 0xFF);
         if n > 15 {
-            assert_eq!(write(&with_sid(&sid), &mut [0; 400]), Err(10));
+            assert_eq!(write(Unicode, &with_sid(&sid), &mut [0; 400]), Err(10));
             continue;
         }
-        let record = written(&with_sid(&sid));
-        assert_eq!(plain::sid(&record, 0), sid);
+        let record = written(Unicode, &with_sid(&sid));
+        assert_eq!(plain::sid(Unicode, &record, 0), sid);
         for (at, value) in [(60, 0), (60, 2), (61, n + 1)] {
             let mut wrong = record.clone();
             wrong[at] = value;
-            assert_eq!(number(judge(&wrong, 0)), Err(10));
+            assert_eq!(number(judge(Unicode, &wrong, 0)), Err(10));
             assert_eq!(
-                write(&with_sid(&wrong[60..60 + sid.len()]), &mut [0; 400]),
+                write(
+                    Unicode,
+                    &with_sid(&wrong[60..60 + sid.len()]),
+                    &mut [0; 400]
+                ),
                 Err(10)
             );
         }
         let longer = [&sid[..], &[0]].concat();
-        assert_eq!(write(&with_sid(&longer), &mut [0; 400]), Err(10));
+        assert_eq!(write(Unicode, &with_sid(&longer), &mut [0; 400]), Err(10));
         assert_eq!(
-            write(&with_sid(&sid[..sid.len() - 1]), &mut [0; 400]),
+            write(Unicode, &with_sid(&sid[..sid.len() - 1]), &mut [0; 400]),
             Err(10)
         );
     }
     for short in [&[1][..], &[1, 0], &[0; 8]] {
-        assert_eq!(write(&with_sid(short), &mut [0; 400]), Err(10));
+        assert_eq!(write(Unicode, &with_sid(short), &mut [0; 400]), Err(10));
     }
 }
 
@@ -310,15 +324,15 @@ fn sid_lengths() {
 fn sums_that_wrap() {
     // Offset plus length is a place inside the record only in 32 bits.
     for length in [u32::MAX, u32::MAX - 3, 0x8000_0000, 0xFFFF_FFB4] {
-        assert_eq!(number(judge(&with32(&T, 40, length), 0)), Err(10));
-        assert_eq!(number(judge(&with32(&T, 48, length), 0)), Err(12));
+        assert_eq!(number(judge(Unicode, &with32(&T, 40, length), 0)), Err(10));
+        assert_eq!(number(judge(Unicode, &with32(&T, 48, length), 0)), Err(12));
         let moved = with32(&with32(&T, 48, length), 52, 97u32.wrapping_sub(length));
-        assert_eq!(number(judge(&moved, 0)), Err(12));
+        assert_eq!(number(judge(Unicode, &moved, 0)), Err(12));
     }
-    assert_eq!(number(judge(&T, usize::MAX)), Err(1));
-    assert_eq!(number(judge_back(&T, usize::MAX)), Err(1));
+    assert_eq!(number(judge(Unicode, &T, usize::MAX)), Err(1));
+    assert_eq!(number(judge_back(Unicode, &T, usize::MAX)), Err(1));
     assert_eq!(
-        step(&T, usize::MAX),
+        step(Unicode, &T, usize::MAX),
         Err(Refusal {
             number: 1,
             field: 0,
@@ -326,7 +340,7 @@ fn sums_that_wrap() {
         })
     );
     assert_eq!(
-        step_back(&T, usize::MAX),
+        step_back(Unicode, &T, usize::MAX),
         Err(Refusal {
             number: 1,
             field: 0,
@@ -334,7 +348,7 @@ fn sums_that_wrap() {
         })
     );
     assert_eq!(
-        number(append(&mut T.clone(), usize::MAX, &s_event())),
+        number(append(Unicode, &mut T.clone(), usize::MAX, &s_event())),
         Err(1)
     );
 }
@@ -343,11 +357,15 @@ fn sums_that_wrap() {
 fn places() {
     let log = s_t();
     for at in 0..=log.len() + 70 {
-        assert_eq!(judge(&log, at), slow(&log, at), "at {at}");
-        assert_eq!(judge_back(&log, at), slow_back(&log, at), "end {at}");
+        assert_eq!(judge(Unicode, &log, at), slow(Unicode, &log, at), "at {at}");
+        assert_eq!(
+            judge_back(Unicode, &log, at),
+            slow_back(Unicode, &log, at),
+            "end {at}"
+        );
     }
     assert_eq!(
-        step(&log, 105),
+        step(Unicode, &log, 105),
         Err(Refusal {
             number: 1,
             field: 0,
@@ -355,7 +373,7 @@ fn places() {
         })
     );
     assert_eq!(
-        step_back(&log, 169),
+        step_back(Unicode, &log, 169),
         Err(Refusal {
             number: 1,
             field: 0,
@@ -363,17 +381,23 @@ fn places() {
         })
     );
     assert_eq!(
-        step_back(&log, 63),
+        step_back(Unicode, &log, 63),
         Err(Refusal {
             number: 1,
             field: 0,
             at: 63
         })
     );
-    assert_eq!(step_back(&log, 100).unwrap_err().at, 100);
-    assert_eq!(step(&log, 64).unwrap().start, 64);
-    assert_eq!(step_back(&log, 168).unwrap(), step(&log, 64).unwrap());
-    assert_eq!(step_back(&log, 64).unwrap(), step(&log, 0).unwrap());
+    assert_eq!(step_back(Unicode, &log, 100).unwrap_err().at, 100);
+    assert_eq!(step(Unicode, &log, 64).unwrap().start, 64);
+    assert_eq!(
+        step_back(Unicode, &log, 168).unwrap(),
+        step(Unicode, &log, 64).unwrap()
+    );
+    assert_eq!(
+        step_back(Unicode, &log, 64).unwrap(),
+        step(Unicode, &log, 0).unwrap()
+    );
 }
 
 #[test]
@@ -382,7 +406,10 @@ fn reading_refuses_in_order() {
     let mut bytes = T.to_vec();
     let mut expect = |at: usize, change: &[u8], number: u32| {
         bytes[at..at + change.len()].copy_from_slice(change);
-        assert_eq!(judge(&bytes, 0).map_err(|why| why.number), Err(number));
+        assert_eq!(
+            judge(Unicode, &bytes, 0).map_err(|why| why.number),
+            Err(number)
+        );
     };
     expect(48, &[0], 13);
     expect(48, &[7], 12);
@@ -396,7 +423,7 @@ fn reading_refuses_in_order() {
     expect(4, &[0], 4);
     expect(0, &[108], 3);
     expect(0, &[109], 2);
-    assert_eq!(number(judge(&bytes[..63], 0)), Err(1));
+    assert_eq!(number(judge(Unicode, &bytes[..63], 0)), Err(1));
 }
 
 #[test]
@@ -405,7 +432,7 @@ fn reading_back_refuses_in_order() {
     let mut expect = |at: usize, change: &[u8], number: u32| {
         bytes[at..at + change.len()].copy_from_slice(change);
         assert_eq!(
-            judge_back(&bytes, 104).map_err(|why| why.number),
+            judge_back(Unicode, &bytes, 104).map_err(|why| why.number),
             Err(number)
         );
     };
@@ -415,8 +442,8 @@ fn reading_back_refuses_in_order() {
     expect(4, &[0], 4);
     expect(100, &[108], 3);
     expect(100, &[109], 2);
-    assert_eq!(number(judge_back(&bytes, 63)), Err(1));
-    assert_eq!(number(judge_back(&bytes, 105)), Err(1));
+    assert_eq!(number(judge_back(Unicode, &bytes, 63)), Err(1));
+    assert_eq!(number(judge_back(Unicode, &bytes, 105)), Err(1));
 }
 
 #[test]
@@ -438,7 +465,8 @@ fn writing_refuses_in_order() {
         event_data: &data,
     };
     let mut out = [0xAA; 100];
-    let mut expect = |event: &Event, number| assert_eq!(write(event, &mut out), Err(number));
+    let mut expect =
+        |event: &Event, number| assert_eq!(write(Unicode, event, &mut out), Err(number));
     expect(&event, 6);
     event.fields.event_type = 0;
     expect(&event, 7);
@@ -460,7 +488,7 @@ fn writing_refuses_in_order() {
     expect(&event, 15);
     assert_eq!(out, [0xAA; 100]);
     event.event_data = &data[..4];
-    assert_eq!(write(&event, &mut out), Ok(80));
+    assert_eq!(write(Unicode, &event, &mut out), Ok(80));
 }
 
 #[test]
@@ -481,8 +509,8 @@ fn names_and_runs_that_are_refused() {
             computer_name: name,
             ..s_event()
         };
-        assert_eq!(write(&source, &mut out), Err(9));
-        assert_eq!(write(&computer, &mut out), Err(9));
+        assert_eq!(write(Unicode, &source, &mut out), Err(9));
+        assert_eq!(write(Unicode, &computer, &mut out), Err(9));
     }
     let runs: [(u16, &[u8]); 9] = [
         (0, &[0, 0]),
@@ -504,16 +532,19 @@ fn names_and_runs_that_are_refused() {
             strings: run,
             ..Event::default()
         };
-        assert_eq!(write(&event, &mut out), Err(11), "{count} {run:?}");
+        assert_eq!(write(Unicode, &event, &mut out), Err(11), "{count} {run:?}");
     }
     assert_eq!(out, [0xAA; 400]);
     // A zero byte on each side of a unit's edge is no zero unit.
     let name = [1, 0, 0, 1, 1, 0, 0, 1, 1, 0, 0, 1];
-    let record = written(&Event {
-        source_name: &name,
-        ..s_event()
-    });
-    assert_eq!(source_name(&record, 0), name);
+    let record = written(
+        Unicode,
+        &Event {
+            source_name: &name,
+            ..s_event()
+        },
+    );
+    assert_eq!(source_name(Unicode, &record, 0), name);
 }
 
 #[test]
@@ -521,22 +552,22 @@ fn read_sizes_and_flags() {
     let log = s_t();
     let mut out = vec![0xAA; 524_288];
     for flags in [5, 9] {
-        let answer = Handle::fresh().read(&log, flags, 0, 524_287, &mut out);
+        let answer = Handle::fresh().read(Unicode, &log, flags, 0, 524_287, &mut out);
         assert_eq!((answer.status, answer.read), (0, 168));
         out.fill(0xAA);
-        let answer = Handle::fresh().read(&log, flags, 0, 524_288, &mut out);
+        let answer = Handle::fresh().read(Unicode, &log, flags, 0, 524_288, &mut out);
         assert_eq!(
             (answer.status, answer.read, answer.needed),
             (0xC000_000D, 0, 0)
         );
-        let answer = Handle::fresh().read(&log, flags, 0, 201, &mut out[..200]);
+        let answer = Handle::fresh().read(Unicode, &log, flags, 0, 201, &mut out[..200]);
         assert_eq!(answer.status, 0xC000_000D);
         assert_eq!(answer.handle, Handle::fresh());
         assert!(out.iter().all(|b| *b == 0xAA));
     }
     for bits in (0..64).chain([1 << 31 | 5, 0x100 | 9, u32::MAX]) {
         let right = [5, 6, 9, 10].contains(&bits);
-        let answer = Handle::fresh().read(&log, bits, 7, 200, &mut out);
+        let answer = Handle::fresh().read(Unicode, &log, bits, 7, 200, &mut out);
         assert_eq!(answer.status == 0, right, "flags {bits}");
         assert!(right || answer.status == 0xC000_000D);
     }
@@ -544,10 +575,16 @@ fn read_sizes_and_flags() {
     let past = Handle {
         place: Place::Boundary(169),
     };
-    assert_eq!(past.read(&log, 4, 0, 0, &mut []).status, 0xC000_000D);
-    assert_eq!(past.read(&log, 5, 0, 1, &mut []).status, 0xC000_000D);
+    assert_eq!(
+        past.read(Unicode, &log, 4, 0, 0, &mut []).status,
+        0xC000_000D
+    );
+    assert_eq!(
+        past.read(Unicode, &log, 5, 0, 1, &mut []).status,
+        0xC000_000D
+    );
     for flags in [5, 6, 9, 10] {
-        let answer = past.read(&log, flags, 7, 200, &mut out);
+        let answer = past.read(Unicode, &log, flags, 7, 200, &mut out);
         assert_eq!((answer.status, answer.handle), (0xC000_0008, past));
     }
 }

@@ -4,6 +4,7 @@
 mod common;
 
 use common::*;
+use plain::Edition::Unicode;
 use plain::*;
 
 const SEEK_FORWARDS: u32 = 6;
@@ -23,7 +24,7 @@ fn three() -> Vec<u8> {
 /// A read into a marked output; checks that the rest of it is unchanged.
 fn read(handle: Handle, log: &[u8], flags: u32, number: u32, size: usize) -> (Answer, Vec<u8>) {
     let mut out = vec![0xAA; size + 9];
-    let answer = handle.read(log, flags, number, size, &mut out);
+    let answer = handle.read(Unicode, log, flags, number, size, &mut out);
     assert!(out[answer.read..].iter().all(|b| *b == 0xAA));
     if answer.status != 0 {
         assert_eq!((answer.read, answer.handle), (0, handle));
@@ -137,10 +138,13 @@ fn turning_round_returns_the_last_record_again() {
 #[test]
 fn a_record_in_the_data_is_not_met() {
     let inner = s_t();
-    let outer = written(&Event {
-        event_data: &inner,
-        ..s_event()
-    });
+    let outer = written(
+        Unicode,
+        &Event {
+            event_data: &inner,
+            ..s_event()
+        },
+    );
     let log = [&outer[..], &S, &outer].concat();
     let whole = |at| Walked {
         count: 3,
@@ -148,14 +152,14 @@ fn a_record_in_the_data_is_not_met() {
         field: 0,
         at,
     };
-    assert_eq!(walk(&log), whole(log.len()));
-    assert_eq!(walk_back(&log), whole(0));
+    assert_eq!(walk(Unicode, &log), whole(log.len()));
+    assert_eq!(walk_back(Unicode, &log), whole(0));
     let (answer, _) = read(Handle::fresh(), &log, SEEK_FORWARDS, 8, 1000);
     assert_eq!(answer.status, 0xC000_000D);
 }
 
 /// One series of reads in one direction against the count of Rule 9.5.
-fn series(rng: &mut Rng, records: &[Vec<u8>], backwards: bool) {
+fn series(edition: Edition, rng: &mut Rng, records: &[Vec<u8>], backwards: bool) {
     let log = records.concat();
     let mut order: Vec<&[u8]> = records.iter().map(|r| &r[..]).collect();
     if backwards {
@@ -188,7 +192,7 @@ fn series(rng: &mut Rng, records: &[Vec<u8>], backwards: bool) {
             continue;
         }
         let number = rng.next() as u32;
-        let answer = handle.read(&log, asked, number, size, &mut out);
+        let answer = handle.read(edition, &log, asked, number, size, &mut out);
 
         let left = &order[c..];
         let (status, read, needed) = if wrong {
@@ -230,13 +234,14 @@ fn series(rng: &mut Rng, records: &[Vec<u8>], backwards: bool) {
 #[test]
 fn series_of_reads() {
     let mut rng = Rng(3);
-    for _ in 0..1000 {
+    for i in 0..2000 {
+        let edition = EDITIONS[i % 2];
         let count = rng.below(8);
         let records: Vec<_> = (0..count)
-            .map(|_| written(&Owned::random(&mut rng).event()))
+            .map(|_| written(edition, &Owned::random(edition, &mut rng).event()))
             .collect();
-        series(&mut rng, &records, false);
-        series(&mut rng, &records, true);
+        series(edition, &mut rng, &records, false);
+        series(edition, &mut rng, &records, true);
     }
 }
 
@@ -247,7 +252,7 @@ fn as_many_reads_as_records_reach_the_end() {
     let name = [b'a', 0].repeat(131_038);
     let mut records = Vec::new();
     for i in 0..30 {
-        let mut owned = Owned::random(&mut rng);
+        let mut owned = Owned::random(Unicode, &mut rng);
         if i % 10 > 7 {
             owned.source_name = name[..2 * (131_038 - rng.below(2) * 65_536)].to_vec();
             owned.computer_name.clear();
@@ -257,7 +262,7 @@ fn as_many_reads_as_records_reach_the_end() {
             owned.run.clear();
             owned.event_data.clear();
         }
-        records.push(written(&owned.event()));
+        records.push(written(Unicode, &owned.event()));
     }
     assert!(records.iter().any(|r| r.len() == 262_140));
     let log = records.concat();
@@ -266,13 +271,13 @@ fn as_many_reads_as_records_reach_the_end() {
         let mut handle = Handle::fresh();
         let mut copied = 0;
         for _ in 0..records.len() {
-            let answer = handle.read(&log, flags, 0, 262_140, &mut out);
+            let answer = handle.read(Unicode, &log, flags, 0, 262_140, &mut out);
             assert!(answer.status == 0 || copied == log.len());
             copied += answer.read;
             handle = answer.handle;
         }
         assert_eq!(copied, log.len());
-        let answer = handle.read(&log, flags, 0, 262_140, &mut out);
+        let answer = handle.read(Unicode, &log, flags, 0, 262_140, &mut out);
         assert_eq!(answer.status, 0xC000_0011);
     }
 }

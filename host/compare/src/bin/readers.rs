@@ -14,6 +14,7 @@ use std::process::{Command, ExitCode};
 
 use compare::make::Made;
 use compare::random::Random;
+use eventlog::Edition;
 
 const RECORDS: u32 = 500;
 /// Bytes between the names and the first part (Rule 2.12); the names end on a
@@ -63,7 +64,7 @@ fn time(rng: &mut Random) -> u32 {
 }
 
 fn event(rng: &mut Random, record_number: u32) -> Made {
-    let mut made = Made::default();
+    let mut made = Made::new(plain::Edition::Unicode);
     let f = &mut made.fields;
     f.record_number = record_number;
     f.time_generated = time(rng);
@@ -96,7 +97,7 @@ fn event(rng: &mut Random, record_number: u32) -> Made {
 fn written(made: &Made) -> Vec<u8> {
     let mut record = vec![0; made.length()];
     let number = made.fields.record_number;
-    let written = eventlog::write(number, &made.proved(), &mut record);
+    let written = eventlog::write(Edition::Unicode, number, &made.proved(), &mut record);
     let length = written.expect("the event is accepted");
     assert_eq!(length, record.len());
     record
@@ -147,7 +148,7 @@ fn time_text(seconds: u32) -> String {
 
 /// ndrdump's lines but for those left out, from the proved reader.
 fn as_ndrdump(record: &[u8]) -> Shown {
-    let r = eventlog::step(record, 0).expect("the record is accepted");
+    let r = eventlog::step(Edition::Unicode, record, 0).expect("the record is accepted");
     let e = r.event;
     let long = |n: usize| format!("0x{n:08x} ({n})");
     let short = |n: u16| format!("0x{n:04x} ({n})");
@@ -188,7 +189,7 @@ fn as_ndrdump(record: &[u8]) -> Shown {
 
 /// evtexport's lines, from the proved reader.
 fn as_evtexport(record: &[u8]) -> Shown {
-    let r = eventlog::step(record, 0).expect("the record is accepted");
+    let r = eventlog::step(Edition::Unicode, record, 0).expect("the record is accepted");
     let e = r.event;
     let mut shown = named([
         ("Event number", r.record_number.to_string()),
