@@ -1,4 +1,5 @@
-/* Prints the records of a log, appends an entry to it in memory, and reads the log back from the rear. */
+/* Prints the records of a log, appends an entry to it in memory, and reads the log back: all of it from the rear, and
+ * then its errors and warnings. */
 #include <eventlog.h>
 
 #include <stdio.h>
@@ -46,6 +47,23 @@ static int print_records(const uint8_t *buffer, size_t len)
     return 0;
 }
 
+/* Reads the records of these types from a log, all of them one way, and prints them. */
+static int print_types(size_t used, uint32_t flags, uint32_t types)
+{
+    eventlog_handle handle = eventlog_fresh(types);
+    for (;;) {
+        eventlog_answer answer = eventlog_read(edition, handle, event_log, used, flags, 0,
+                                               sizeof batch, batch, sizeof batch);
+        if (answer.status == EVENTLOG_STATUS_END_OF_FILE)
+            return 0;
+        if (answer.status != EVENTLOG_STATUS_SUCCESS)
+            return fail("read", answer.status);
+        if (print_records(batch, answer.read) != 0)
+            return 1;
+        handle = answer.handle;
+    }
+}
+
 int main(int argc, char **argv)
 {
     FILE *file = argc == 2 ? fopen(argv[1], "rb") : NULL;
@@ -68,17 +86,9 @@ int main(int argc, char **argv)
         return fail("append", appended.refusal);
 
     puts("from the rear:");
-    uint32_t newest_first = EVENTLOG_SEQUENTIAL | EVENTLOG_BACKWARDS;
-    eventlog_handle handle = eventlog_fresh();
-    for (;;) {
-        eventlog_answer answer = eventlog_read(edition, handle, event_log, appended.used, newest_first, 0,
-                                               sizeof batch, batch, sizeof batch);
-        if (answer.status == EVENTLOG_STATUS_END_OF_FILE)
-            return 0;
-        if (answer.status != EVENTLOG_STATUS_SUCCESS)
-            return fail("read", answer.status);
-        if (print_records(batch, answer.read) != 0)
-            return 1;
-        handle = answer.handle;
-    }
+    if (print_types(appended.used, EVENTLOG_SEQUENTIAL | EVENTLOG_BACKWARDS, EVENTLOG_WANT_ALL) != 0)
+        return 1;
+    puts("errors and warnings:");
+    return print_types(appended.used, EVENTLOG_SEQUENTIAL | EVENTLOG_FORWARDS,
+                       EVENTLOG_WANT_ERROR | EVENTLOG_WANT_WARNING);
 }

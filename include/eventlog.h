@@ -158,6 +158,16 @@ extern "C" {
 #define EVENTLOG_AUDIT_SUCCESS 8u
 #define EVENTLOG_AUDIT_FAILURE 16u
 
+/* The types that a read wants: a handle's set has a bit for each, and is any sum of these. Five have the value of their
+ * type, and type 0 has the next bit (Rule 8.27). A set of 0 wants none. */
+#define EVENTLOG_WANT_ERROR 1u
+#define EVENTLOG_WANT_WARNING 2u
+#define EVENTLOG_WANT_INFORMATION 4u
+#define EVENTLOG_WANT_AUDIT_SUCCESS 8u
+#define EVENTLOG_WANT_AUDIT_FAILURE 16u
+#define EVENTLOG_WANT_SUCCESS 32u
+#define EVENTLOG_WANT_ALL 63u
+
 /* The one value of ReservedFlags but 0: the last string is XML, so there is one at least. */
 #define EVENTLOG_FLAGS_XML 0x8000u
 
@@ -275,13 +285,14 @@ typedef struct {
 } eventlog_appended;
 
 /* A read handle: kind EVENTLOG_FRESH is fresh, whatever its boundary; every other kind is a boundary at this
- * byte of the log. */
+ * byte of the log. types is the set of event types that its reads want. */
 typedef struct {
     uint32_t kind;
+    uint32_t types;
     size_t boundary;
 } eventlog_handle;
 
-/* What a read answers: an NTSTATUS, 0 for success; bytes read; the Length of a record that was too long for the
+/* What a read answers: an NTSTATUS, 0 for success; bytes read; the Length of a wanted record that was too long for the
  * size, else 0; and the next handle. */
 typedef struct {
     uint32_t status;
@@ -378,29 +389,37 @@ eventlog_appended eventlog_append(uint32_t edition, uint8_t *log, size_t log_len
                                   const uint8_t *strings, size_t strings_len,
                                   const uint8_t *event_data, size_t event_data_len);
 
-/* A handle that nothing was read with: kind 0, boundary 0. */
-eventlog_handle eventlog_fresh(void);
+/* A handle that nothing was read with: kind 0, boundary 0 and these types. Any set may be given: a read judges it. */
+eventlog_handle eventlog_fresh(uint32_t types);
 
-/* Reads as many records as fit into the size, one after another, over the start of the output, up to one that
- * does not fit or is refused (section 8). The size is what a client asks for, and out_len is what the caller has
- * lent: a server checks the one against the other here, and nothing past the size is written, however long the
- * output is. Flags: EVENTLOG_SEQUENTIAL or EVENTLOG_SEEK, with EVENTLOG_FORWARDS or EVENTLOG_BACKWARDS.
- * Sequential goes on from the boundary; with a fresh handle that is byte 0 forwards, and the log's end backwards.
- * Seek looks from byte 0 on, whatever the boundary, and starts with the first record that has the record number;
- * the number is for seek alone. Backwards the newest record comes first, and the bytes of a record are not turned
- * round. Refused with the first of these statuses (Rule 8.7):
- *   0xC000000D  the flags are other ones, or the size is above EVENTLOG_MAX_READ or out_len;
+/* How many of the six event types are in a set. Bits that are none of EVENTLOG_WANT_ALL are not counted, and nothing is
+ * refused. */
+uint32_t eventlog_types_count(uint32_t types);
+
+/* Reads as many wanted records as fit into the size, one after another, over the start of the output, up to a wanted
+ * one that does not fit or to any record that is refused (section 8). A record is wanted if its event type is in the
+ * handle's types; the others are judged and skipped, and take no room. The size is what a client asks for, and out_len
+ * is what the caller has lent: a server checks the one against the other here, and nothing past the size is written,
+ * however long the output is. Flags: EVENTLOG_SEQUENTIAL or EVENTLOG_SEEK, with EVENTLOG_FORWARDS or
+ * EVENTLOG_BACKWARDS. Sequential goes on from the boundary; with a fresh handle that is byte 0 forwards, and the log's
+ * end backwards. Seek looks from byte 0 on, whatever the boundary, for the first record that has the record number,
+ * whatever its type, and starts with it, or past it where it is not wanted; the number is for seek alone. Backwards the
+ * newest record comes first, and the bytes of a record are not turned round. Refused with the first of these statuses
+ * (Rule 8.7):
+ *   0xC000000D  the flags are other ones, or the size is above EVENTLOG_MAX_READ or out_len, or types has a bit that is
+ *               none of EVENTLOG_WANT_ALL;
  *   0xC0000008  the boundary is greater than log_len;
  *   0xC000018E  a seek comes to a record that is refused and has not found the number;
  *   0xC000000D  a seek comes to the log's end and has not found it;
- *   0xC0000011  no bytes are ahead of the starting place;
- *   0xC000018E  the record at the starting place is refused;
- *   0xC0000023  it is longer than the size; needed is its Length.
- * A refusal answers read 0, needed 0 but for the last status, and the handle as it was given; it leaves the
- * output as it was. A success answers the bytes read, needed 0 and a handle of kind 1, whose boundary is the end
- * of the last record copied, backwards its start; the rest of the output is left.
- * Cost: as eventlog_refusal for each record copied and for the one that stops the read, and every byte is copied
- * once; a seek walks from the front up to the record first. */
+ *   0xC0000011  no bytes are ahead of the starting place, or none after the records that were skipped from there on;
+ *   0xC000018E  a record is refused that is met there before a wanted one;
+ *   0xC0000023  the first wanted one is longer than the size; needed is its Length.
+ * A refusal answers read 0, needed 0 but for the last status, and the handle as it was given, every member; it leaves
+ * the output as it was. A success answers the bytes read, needed 0 and a handle of kind 1 with the same types, whose
+ * boundary is the end of the last record copied, backwards its start, so that records skipped after it are met again;
+ * the rest of the output is left. With EVENTLOG_WANT_ALL nothing is skipped.
+ * Cost: as eventlog_refusal for each record copied or skipped and for the one that stops the read, and every byte of
+ * those copied is copied once; a seek walks from the front up to the record first. */
 eventlog_answer eventlog_read(uint32_t edition, eventlog_handle handle, const uint8_t *log, size_t log_len,
                               uint32_t flags, uint32_t record_number, size_t size, uint8_t *out, size_t out_len);
 
@@ -594,9 +613,9 @@ static inline const char *eventlog_message(uint32_t number)
     case EVENTLOG_REFUSED_BLOCK_USED: return "a block's used count is wrong, or its rest is not zero";
     case EVENTLOG_REFUSED_BLOCK_MARK: return "a block's last mark is wrong";
     case EVENTLOG_STATUS_INVALID_HANDLE: return "the handle's boundary is past the log's end";
-    case EVENTLOG_STATUS_INVALID_PARAMETER: return "flags or size are wrong, or no record has the number sought";
-    case EVENTLOG_STATUS_END_OF_FILE: return "no bytes are left in that direction";
-    case EVENTLOG_STATUS_BUFFER_TOO_SMALL: return "the next record is longer than the size asked";
+    case EVENTLOG_STATUS_INVALID_PARAMETER: return "flags, size or types are wrong, or no record has the number sought";
+    case EVENTLOG_STATUS_END_OF_FILE: return "no wanted record is left in that direction";
+    case EVENTLOG_STATUS_BUFFER_TOO_SMALL: return "the next wanted record is longer than the size asked";
     case EVENTLOG_STATUS_EVENTLOG_FILE_CORRUPT: return "a record that is not good is met";
     default: return "no number that the library answers";
     }

@@ -19,6 +19,8 @@ _Static_assert(sizeof(eventlog_handle) == 16, "eventlog_handle");
 _Static_assert(sizeof(eventlog_answer) == 40, "eventlog_answer");
 _Static_assert(offsetof(eventlog_stepped, found) == 24, "eventlog_stepped.found");
 _Static_assert(offsetof(eventlog_next, string) == 8, "eventlog_next.string");
+_Static_assert(offsetof(eventlog_handle, types) == 4, "eventlog_handle.types");
+_Static_assert(offsetof(eventlog_handle, boundary) == 8, "eventlog_handle.boundary");
 _Static_assert(offsetof(eventlog_answer, handle) == 24, "eventlog_answer.handle");
 
 /* A member of another width can leave a struct's size as it is, by its padding. */
@@ -35,7 +37,8 @@ _Static_assert(WIDTH(eventlog_walked, at) == 8, "eventlog_walked");
 _Static_assert(WIDTH(eventlog_written, refusal) == 4 && WIDTH(eventlog_written, length) == 8, "eventlog_written");
 _Static_assert(WIDTH(eventlog_appended, refusal) == 4 && WIDTH(eventlog_appended, used) == 8, "eventlog_appended");
 _Static_assert(WIDTH(eventlog_appended, field) == 8, "eventlog_appended");
-_Static_assert(WIDTH(eventlog_handle, kind) == 4 && WIDTH(eventlog_handle, boundary) == 8, "eventlog_handle");
+_Static_assert(WIDTH(eventlog_handle, kind) == 4 && WIDTH(eventlog_handle, types) == 4, "eventlog_handle");
+_Static_assert(WIDTH(eventlog_handle, boundary) == 8, "eventlog_handle");
 _Static_assert(WIDTH(eventlog_answer, status) == 4 && WIDTH(eventlog_answer, read) == 8, "eventlog_answer");
 _Static_assert(WIDTH(eventlog_answer, needed) == 8, "eventlog_answer");
 
@@ -768,9 +771,23 @@ static void append_says_the_field(void)
 
 /* ---- fresh, read ---- */
 
+#define ALL EVENTLOG_WANT_ALL
+
 /* Every kind but 0 is a boundary. */
-#define FRESH {.kind = 0, .boundary = 0}
-#define BOUNDARY(b) {.kind = 7, .boundary = (b)}
+#define HANDLE(k, t, b) {.kind = (k), .types = (t), .boundary = (b)}
+#define FRESH HANDLE(0, ALL, 0)
+#define BOUNDARY(b) HANDLE(7, ALL, b)
+
+static int same_handle(eventlog_handle a, eventlog_handle b)
+{
+    return a.kind == b.kind && a.types == b.types && a.boundary == b.boundary;
+}
+
+/* The handle that a success answers. */
+static int goes_on(eventlog_handle answered, eventlog_handle given, size_t boundary)
+{
+    return answered.kind == 1 && answered.types == given.types && answered.boundary == boundary;
+}
 
 enum { FORWARDS = 5, BACKWARDS = 9, SEEK_FORWARDS = 6, SEEK_BACKWARDS = 10 };
 
@@ -794,7 +811,7 @@ static const struct {
     {__LINE__, BOUNDARY(T), END, BACKWARDS, 0, 104, "S", 0},
     {__LINE__, BOUNDARY(END), END, BACKWARDS, 0, 104, "T", T},
     /* a fresh handle's boundary is not looked at */
-    {__LINE__, {.kind = 0, .boundary = END + 1}, END, FORWARDS, 0, 168, "ST", END},
+    {__LINE__, HANDLE(0, ALL, END + 1), END, FORWARDS, 0, 168, "ST", END},
     {__LINE__, FRESH, END, SEEK_FORWARDS, S_NUMBER, 168, "ST", END},
     {__LINE__, FRESH, END, SEEK_FORWARDS, T_NUMBER, 168, "T", END},
     {__LINE__, BOUNDARY(END), END, SEEK_FORWARDS, S_NUMBER, 64, "S", T},
@@ -820,7 +837,7 @@ static void read_copies(void)
                                           reads[i].number, reads[i].size, out, reads[i].size);
         CHECK_AT(reads[i].line, r.status == 0);
         CHECK_AT(reads[i].line, r.read == read && r.needed == 0);
-        CHECK_AT(reads[i].line, r.handle.kind == 1 && r.handle.boundary == reads[i].boundary);
+        CHECK_AT(reads[i].line, goes_on(r.handle, reads[i].h, reads[i].boundary));
         CHECK_AT(reads[i].line, memcmp(out, want, sizeof out) == 0);
     }
 }
@@ -843,12 +860,22 @@ static const struct {
     {__LINE__, FRESH, END, 16 + FORWARDS, 0, 168, 168, 0xC000000D, 0},
     {__LINE__, FRESH, END, 0x80000000 + BACKWARDS, 0, 168, 168, 0xC000000D, 0},
     {__LINE__, BOUNDARY(T), END, 3, 0, 168, 168, 0xC000000D, 0},
-    {__LINE__, {.kind = 0, .boundary = T}, END, 12, 0, 168, 168, 0xC000000D, 0},
+    {__LINE__, HANDLE(0, ALL, T), END, 12, 0, 168, 168, 0xC000000D, 0},
     {__LINE__, FRESH, END, FORWARDS, 0, 524288, 524288, 0xC000000D, 0},
     {__LINE__, FRESH, END, FORWARDS, 0, SIZE_MAX, 168, 0xC000000D, 0},
     {__LINE__, FRESH, END, FORWARDS, 0, 168, 167, 0xC000000D, 0},
     {__LINE__, BOUNDARY(END + 1), END, 7, 0, 168, 168, 0xC000000D, 0},
     {__LINE__, BOUNDARY(END + 1), END, FORWARDS, 0, 168, 167, 0xC000000D, 0},
+    /* a set with another bit: after flags and size, before the boundary, and in a seek too */
+    {__LINE__, HANDLE(0, 64, 0), END, FORWARDS, 0, 168, 168, 0xC000000D, 0},
+    {__LINE__, HANDLE(0, ALL | 64, 0), END, BACKWARDS, 0, 168, 168, 0xC000000D, 0},
+    {__LINE__, HANDLE(0, ALL | 0x10000, 9), END, SEEK_FORWARDS, S_NUMBER, 168, 168, 0xC000000D, 0},
+    {__LINE__, HANDLE(7, 0x80000000, T), END, SEEK_BACKWARDS, 9, 168, 168, 0xC000000D, 0},
+    {__LINE__, HANDLE(7, UINT32_MAX, END + 1), END, FORWARDS, 0, 168, 168, 0xC000000D, 0},
+    {__LINE__, HANDLE(7, 64, END), END, FORWARDS, 0, 168, 168, 0xC000000D, 0},
+    {__LINE__, HANDLE(0, 64, 0), 0, BACKWARDS, 0, 0, 168, 0xC000000D, 0},
+    {__LINE__, HANDLE(7, 64, T), END - 1, FORWARDS, 0, 168, 168, 0xC000000D, 0},
+    {__LINE__, HANDLE(7, 0, END + 1), END, FORWARDS, 0, 168, 168, 0xC0000008, 0},
     {__LINE__, BOUNDARY(END + 1), END, FORWARDS, 0, 168, 168, 0xC0000008, 0},
     {__LINE__, BOUNDARY(SIZE_MAX), END, BACKWARDS, 0, 168, 168, 0xC0000008, 0},
     {__LINE__, BOUNDARY(END + 1), END, SEEK_FORWARDS, 9, 168, 168, 0xC0000008, 0},
@@ -880,16 +907,15 @@ static void read_refuses(void)
                                           unread[i].number, unread[i].size, out, unread[i].out_len);
         CHECK_AT(unread[i].line, r.status == unread[i].status);
         CHECK_AT(unread[i].line, r.read == 0 && r.needed == unread[i].needed);
-        CHECK_AT(unread[i].line, r.handle.kind == unread[i].h.kind);
-        CHECK_AT(unread[i].line, r.handle.boundary == unread[i].h.boundary);
+        CHECK_AT(unread[i].line, same_handle(r.handle, unread[i].h));
         CHECK_AT(unread[i].line, memcmp(out, want, sizeof out) == 0);
     }
 }
 
 static void read_goes_on(void)
 {
-    eventlog_handle h = eventlog_fresh();
-    CHECK(h.kind == 0 && h.boundary == 0);
+    eventlog_handle h = eventlog_fresh(ALL);
+    CHECK(h.kind == 0 && h.types == ALL && h.boundary == 0);
     eventlog_answer r = eventlog_read(UNICODE, h, batch, END, FORWARDS, 0, 64, out, sizeof out);
     CHECK(r.status == 0 && r.read == 64 && r.handle.boundary == T);
     r = eventlog_read(UNICODE, r.handle, batch, END, FORWARDS, 0, 104, out, sizeof out);
@@ -912,6 +938,161 @@ static void read_goes_on(void)
     memcpy(twice + S_LENGTH, batch, S_LENGTH);
     r = eventlog_read(UNICODE, h, twice, sizeof twice, SEEK_FORWARDS, S_NUMBER, 64, out, sizeof out);
     CHECK(r.status == 0 && r.handle.boundary == S_LENGTH);
+}
+
+/* ---- reads of some types ---- */
+
+/* A record for each type, numbered from 1 on, and one more of type 1: S or T with that number and type. */
+enum { A = 0, B = 64, C = 168, D = 232, E = 336, F = 400, G = 464, MIXED = 528 };
+
+static uint8_t mixed[MIXED];
+
+static const struct {
+    char name;
+    size_t at, length;
+    uint8_t type;
+} kinds[] = {
+    {'a', A, S_LENGTH, 1}, {'b', B, T_LENGTH, 2}, {'c', C, S_LENGTH, 4}, {'d', D, T_LENGTH, 8}, {'e', E, S_LENGTH, 16},
+    {'f', F, S_LENGTH, 0}, {'g', G, S_LENGTH, 1},
+};
+
+static void mix(void)
+{
+    for (size_t i = 0; i < COUNT(kinds); i++) {
+        uint8_t *record = mixed + kinds[i].at;
+        memcpy(record, batch + (kinds[i].length == S_LENGTH ? S : T), kinds[i].length);
+        memset(record + 8, 0, 4);
+        record[8] = (uint8_t)(i + 1);
+        record[24] = kinds[i].type;
+    }
+}
+
+/* Reads of these records, one byte of them changed if there is a place for it: what is copied, and the new boundary; or
+ * the status and the bytes needed. */
+static const struct {
+    int line;
+    size_t changed;
+    eventlog_handle h;
+    uint32_t flags, number;
+    size_t size;
+    const char *records;
+    size_t boundary;
+    uint32_t status;
+    size_t needed;
+} mixed_reads[] = {
+    /* each type by its own bit */
+    {__LINE__, 0, HANDLE(0, 1, 0), FORWARDS, 0, 528, "ag", MIXED, 0, 0},
+    {__LINE__, 0, HANDLE(0, 2, 0), FORWARDS, 0, 528, "b", C, 0, 0},
+    {__LINE__, 0, HANDLE(0, 4, 0), FORWARDS, 0, 528, "c", D, 0, 0},
+    {__LINE__, 0, HANDLE(0, 8, 0), FORWARDS, 0, 528, "d", E, 0, 0},
+    {__LINE__, 0, HANDLE(0, 16, 0), FORWARDS, 0, 528, "e", F, 0, 0},
+    {__LINE__, 0, HANDLE(0, 32, 0), FORWARDS, 0, 528, "f", G, 0, 0},
+    {__LINE__, 0, HANDLE(0, 1, 0), BACKWARDS, 0, 528, "ga", A, 0, 0},
+    {__LINE__, 0, HANDLE(0, 2, 0), BACKWARDS, 0, 528, "b", B, 0, 0},
+    {__LINE__, 0, HANDLE(0, 32, 0), BACKWARDS, 0, 528, "f", F, 0, 0},
+    {__LINE__, 0, HANDLE(0, 62, 0), FORWARDS, 0, 528, "bcdef", G, 0, 0},
+    {__LINE__, 0, HANDLE(0, 31, 0), BACKWARDS, 0, 528, "gedcba", A, 0, 0},
+    {__LINE__, 0, FRESH, FORWARDS, 0, 528, "abcdefg", MIXED, 0, 0},
+    /* those skipped take no room; the last copied one gives the boundary */
+    {__LINE__, 0, HANDLE(0, 5, 0), FORWARDS, 0, 128, "ac", D, 0, 0},
+    {__LINE__, 0, HANDLE(0, 5, 0), FORWARDS, 0, 191, "ac", D, 0, 0},
+    {__LINE__, 0, HANDLE(7, 5, D), FORWARDS, 0, 64, "g", MIXED, 0, 0},
+    {__LINE__, 0, HANDLE(0, 5, 0), BACKWARDS, 0, 128, "gc", C, 0, 0},
+    {__LINE__, 0, HANDLE(7, 5, C), BACKWARDS, 0, 128, "a", A, 0, 0},
+    {__LINE__, 0, HANDLE(7, 5, C), FORWARDS, 0, 64, "c", D, 0, 0},
+    /* one that does not fit stops a read, though a later one would fit */
+    {__LINE__, 0, HANDLE(0, 11, 0), FORWARDS, 0, 167, "a", B, 0, 0},
+    /* seeks find any type, and go on past what is not wanted */
+    {__LINE__, 0, HANDLE(0, 1, 0), SEEK_FORWARDS, 1, 528, "ag", MIXED, 0, 0},
+    {__LINE__, 0, HANDLE(0, 1, 0), SEEK_FORWARDS, 2, 528, "g", MIXED, 0, 0},
+    {__LINE__, 0, HANDLE(7, 4, MIXED), SEEK_FORWARDS, 2, 528, "c", D, 0, 0},
+    {__LINE__, 0, HANDLE(0, 1, 0), SEEK_BACKWARDS, 6, 528, "a", A, 0, 0},
+    {__LINE__, 0, HANDLE(7, 10, A), SEEK_BACKWARDS, 6, 528, "db", B, 0, 0},
+    {__LINE__, 0, HANDLE(0, 32, 0), SEEK_BACKWARDS, 6, 528, "f", F, 0, 0},
+    /* too small is about the next wanted one */
+    {__LINE__, 0, HANDLE(0, 8, 0), FORWARDS, 0, 103, "", 0, 0xC0000023, 104},
+    {__LINE__, 0, HANDLE(0, 2, 0), BACKWARDS, 0, 0, "", 0, 0xC0000023, 104},
+    {__LINE__, 0, HANDLE(0, 16, 0), SEEK_FORWARDS, 2, 63, "", 0, 0xC0000023, 64},
+    {__LINE__, 0, HANDLE(0, 8, 0), SEEK_BACKWARDS, 6, 103, "", 0, 0xC0000023, 104},
+    /* no wanted one is left */
+    {__LINE__, 0, HANDLE(7, 2, C), FORWARDS, 0, 528, "", 0, 0xC0000011, 0},
+    {__LINE__, 0, HANDLE(7, 32, F), BACKWARDS, 0, 528, "", 0, 0xC0000011, 0},
+    {__LINE__, 0, HANDLE(0, 2, 0), SEEK_FORWARDS, 3, 528, "", 0, 0xC0000011, 0},
+    {__LINE__, 0, HANDLE(0, 32, 0), SEEK_BACKWARDS, 5, 528, "", 0, 0xC0000011, 0},
+    {__LINE__, 0, HANDLE(0, 0, 0), FORWARDS, 0, 0, "", 0, 0xC0000011, 0},
+    {__LINE__, 0, HANDLE(0, 0, 9), SEEK_BACKWARDS, 7, 528, "", 0, 0xC0000011, 0},
+    {__LINE__, 0, HANDLE(0, 0, 0), SEEK_FORWARDS, 8, 528, "", 0, 0xC000000D, 0},
+    /* a record that refuses, its signature changed: met while skipping, or after a wanted one */
+    {__LINE__, C + 4, HANDLE(0, 1, 0), FORWARDS, 0, 528, "a", B, 0, 0},
+    {__LINE__, C + 4, HANDLE(7, 1, B), FORWARDS, 0, 528, "", 0, 0xC000018E, 0},
+    {__LINE__, C + 4, HANDLE(0, 8, 0), FORWARDS, 0, 528, "", 0, 0xC000018E, 0},
+    {__LINE__, C + 4, HANDLE(0, 0, 0), FORWARDS, 0, 0, "", 0, 0xC000018E, 0},
+    {__LINE__, C + 4, HANDLE(0, 2, 0), BACKWARDS, 0, 528, "", 0, 0xC000018E, 0},
+    {__LINE__, C + 4, HANDLE(0, 1, 0), BACKWARDS, 0, 528, "g", G, 0, 0},
+    {__LINE__, C + 4, HANDLE(0, 1, 0), SEEK_FORWARDS, 2, 528, "", 0, 0xC000018E, 0},
+    {__LINE__, C + 4, HANDLE(0, 1, 0), SEEK_BACKWARDS, 2, 528, "a", A, 0, 0},
+    {__LINE__, C + 4, HANDLE(0, 1, 0), SEEK_BACKWARDS, 4, 528, "", 0, 0xC000018E, 0},
+    {__LINE__, C + 4, HANDLE(0, 2, 0), FORWARDS, 0, 103, "", 0, 0xC0000023, 104},
+};
+
+static void some_types_are_read(void)
+{
+    for (size_t i = 0; i < COUNT(mixed_reads); i++) {
+        int line = mixed_reads[i].line;
+        lend(sizeof out);
+        mix();
+        size_t read = 0;
+        for (const char *c = mixed_reads[i].records; *c != 0; c++) {
+            size_t k = (size_t)(*c - 'a');
+            memcpy(want + read, mixed + kinds[k].at, kinds[k].length);
+            read += kinds[k].length;
+        }
+        if (mixed_reads[i].changed != 0)
+            mixed[mixed_reads[i].changed]++;
+        eventlog_answer r = eventlog_read(UNICODE, mixed_reads[i].h, mixed, MIXED, mixed_reads[i].flags,
+                                          mixed_reads[i].number, mixed_reads[i].size, out, mixed_reads[i].size);
+        CHECK_AT(line, r.status == mixed_reads[i].status && r.read == read && r.needed == mixed_reads[i].needed);
+        if (r.status == 0)
+            CHECK_AT(line, goes_on(r.handle, mixed_reads[i].h, mixed_reads[i].boundary));
+        else
+            CHECK_AT(line, same_handle(r.handle, mixed_reads[i].h));
+        CHECK_AT(line, memcmp(out, want, sizeof out) == 0);
+    }
+}
+
+/* The samples of Rules 11.80 to 11.84, and every bit of a set by itself. */
+static void sets_of_types(void)
+{
+    uint8_t log[3 * S_LENGTH];
+    for (size_t i = 0; i < 3; i++)
+        memcpy(log + i * S_LENGTH, batch, S_LENGTH);
+    log[24] = log[2 * S_LENGTH + 24] = 4;
+    eventlog_answer r = eventlog_read(UNICODE, eventlog_fresh(4), log, sizeof log, FORWARDS, 0, 128, out, sizeof out);
+    CHECK(r.status == 0 && r.read == 128 && goes_on(r.handle, eventlog_fresh(4), 192));
+    CHECK(memcmp(out, log, S_LENGTH) == 0 && memcmp(out + S_LENGTH, log + 2 * S_LENGTH, S_LENGTH) == 0);
+    r = eventlog_read(UNICODE, eventlog_fresh(32), log, sizeof log, FORWARDS, 0, 63, out, sizeof out);
+    CHECK(r.status == 0xC0000023 && r.needed == 64 && same_handle(r.handle, eventlog_fresh(32)));
+    r = eventlog_read(UNICODE, r.handle, log, sizeof log, FORWARDS, 0, 128, out, sizeof out);
+    CHECK(r.status == 0 && r.read == 64 && goes_on(r.handle, eventlog_fresh(32), 128));
+    CHECK(memcmp(out, batch, S_LENGTH) == 0);
+    r = eventlog_read(UNICODE, r.handle, log, sizeof log, FORWARDS, 0, 128, out, sizeof out);
+    CHECK(r.status == 0xC0000011 && goes_on(r.handle, eventlog_fresh(32), 128));
+    r = eventlog_read(UNICODE, eventlog_fresh(32), log, sizeof log, SEEK_FORWARDS, S_NUMBER, 64, out, sizeof out);
+    CHECK(r.status == 0 && r.read == 64 && goes_on(r.handle, eventlog_fresh(32), 128));
+    r = eventlog_read(UNICODE, eventlog_fresh(64), log, sizeof log, FORWARDS, 0, 64, out, sizeof out);
+    CHECK(r.status == 0xC000000D && same_handle(r.handle, eventlog_fresh(64)));
+
+    CHECK(eventlog_types_count(0x3F) == 6 && eventlog_types_count(0x21) == 2);
+    CHECK(eventlog_types_count(0x40) == 0 && eventlog_types_count(UINT32_MAX) == 6);
+    CHECK(eventlog_types_count(0) == 0);
+    for (unsigned bit = 0; bit < 32; bit++) {
+        uint32_t set = (uint32_t)1 << bit;
+        CHECK(eventlog_types_count(set) == (bit < 6) && eventlog_types_count(ALL & ~set) == (bit < 6 ? 5 : 6));
+        eventlog_handle h = eventlog_fresh(set);
+        CHECK(h.kind == 0 && h.types == set && h.boundary == 0);
+        r = eventlog_read(UNICODE, h, NULL, 0, FORWARDS, 0, 0, NULL, 0);
+        CHECK(r.status == (bit < 6 ? 0xC0000011 : 0xC000000D) && same_handle(r.handle, h));
+    }
 }
 
 /* ---- long records ---- */
@@ -1440,6 +1621,16 @@ static const struct {
     {__LINE__, BOUNDARY(1), FORWARDS, 0, 156, "", 0, 0xC000018E, 0},
     {__LINE__, BOUNDARY(T), FORWARDS, 0, 91, "", 0, 0xC0000023, 92},
     {__LINE__, FRESH, BACKWARDS, 0, 91, "", 0, 0xC0000023, 92},
+    /* S has type 0, T type 16 */
+    {__LINE__, HANDLE(0, 16, 0), FORWARDS, 0, 92, "T", ANSI_END, 0, 0},
+    {__LINE__, HANDLE(0, 32, 0), BACKWARDS, 0, 64, "S", 0, 0, 0},
+    {__LINE__, HANDLE(0, 16, 0), SEEK_FORWARDS, S_NUMBER, 92, "T", ANSI_END, 0, 0},
+    {__LINE__, HANDLE(0, 32, 0), SEEK_BACKWARDS, T_NUMBER, 92, "S", 0, 0, 0},
+    {__LINE__, HANDLE(0, 48, 0), FORWARDS, 0, 156, "ST", ANSI_END, 0, 0},
+    {__LINE__, HANDLE(0, 16, 0), FORWARDS, 0, 91, "", 0, 0xC0000023, 92},
+    {__LINE__, HANDLE(7, 32, T), FORWARDS, 0, 156, "", 0, 0xC0000011, 0},
+    {__LINE__, HANDLE(0, 15, 0), BACKWARDS, 0, 156, "", 0, 0xC0000011, 0},
+    {__LINE__, HANDLE(0, 64, 0), FORWARDS, 0, 156, "", 0, 0xC000000D, 0},
 };
 
 static void ansi_log_is_served(uint32_t ansi)
@@ -1457,9 +1648,9 @@ static void ansi_log_is_served(uint32_t ansi)
                                           ansi_reads[i].number, ansi_reads[i].size, out, ansi_reads[i].size);
         CHECK_AT(line, r.status == ansi_reads[i].status && r.read == read && r.needed == ansi_reads[i].needed);
         if (r.status == 0)
-            CHECK_AT(line, r.handle.kind == 1 && r.handle.boundary == ansi_reads[i].boundary);
+            CHECK_AT(line, goes_on(r.handle, ansi_reads[i].h, ansi_reads[i].boundary));
         else
-            CHECK_AT(line, r.handle.kind == ansi_reads[i].h.kind && r.handle.boundary == ansi_reads[i].h.boundary);
+            CHECK_AT(line, same_handle(r.handle, ansi_reads[i].h));
         CHECK_AT(line, memcmp(out, want, sizeof out) == 0);
     }
 }
@@ -1522,11 +1713,11 @@ static void other_edition_is_refused(uint32_t edition, const uint8_t *log, size_
     const eventlog_handle at_t = BOUNDARY(T);
     eventlog_answer r = eventlog_read(edition, at_t, log, end, FORWARDS, 0, 200, out, sizeof out);
     CHECK(r.status == 0xC000018E && r.read == 0);
-    r = eventlog_read(edition, eventlog_fresh(), log, end, BACKWARDS, 0, 200, out, sizeof out);
+    r = eventlog_read(edition, eventlog_fresh(ALL), log, end, BACKWARDS, 0, 200, out, sizeof out);
     CHECK(r.status == 0xC000018E && r.read == 0);
-    r = eventlog_read(edition, eventlog_fresh(), log, end, SEEK_FORWARDS, T_NUMBER, 200, out, sizeof out);
+    r = eventlog_read(edition, eventlog_fresh(ALL), log, end, SEEK_FORWARDS, T_NUMBER, 200, out, sizeof out);
     CHECK(r.status == 0xC000018E && r.read == 0);
-    r = eventlog_read(edition, eventlog_fresh(), log, end, FORWARDS, 0, 200, out, sizeof out);
+    r = eventlog_read(edition, eventlog_fresh(ALL), log, end, FORWARDS, 0, 200, out, sizeof out);
     CHECK(r.status == 0 && r.read == S_LENGTH);
 
     static const char text[] = "refused 12 at 64 field 48\n";
@@ -1578,6 +1769,8 @@ int main(void)
     read_copies();
     read_refuses();
     read_goes_on();
+    some_types_are_read();
+    sets_of_types();
     length2_ends_no_text();
     longest_record_in_a_log();
     listing_answers();

@@ -51,7 +51,21 @@ static void numbers(void)
     CHECK(EVENTLOG_SUCCESS == 0 && EVENTLOG_ERROR_TYPE == 1 && EVENTLOG_WARNING_TYPE == 2);
     CHECK(EVENTLOG_INFORMATION_TYPE == 4 && EVENTLOG_AUDIT_SUCCESS == 8 && EVENTLOG_AUDIT_FAILURE == 16);
     CHECK(EVENTLOG_UNICODE == 0 && EVENTLOG_ANSI == 1);
-    CHECK(EVENTLOG_FRESH == 0 && EVENTLOG_BOUNDARY == 1 && eventlog_fresh().kind == EVENTLOG_FRESH);
+    CHECK(EVENTLOG_FRESH == 0 && EVENTLOG_BOUNDARY == 1 && eventlog_fresh(0).kind == EVENTLOG_FRESH);
+}
+
+/* Each type's bit, and all of them. */
+static void types(void)
+{
+    CHECK(EVENTLOG_WANT_ERROR == EVENTLOG_ERROR_TYPE && EVENTLOG_WANT_WARNING == EVENTLOG_WARNING_TYPE);
+    CHECK(EVENTLOG_WANT_INFORMATION == EVENTLOG_INFORMATION_TYPE);
+    CHECK(EVENTLOG_WANT_AUDIT_SUCCESS == EVENTLOG_AUDIT_SUCCESS);
+    CHECK(EVENTLOG_WANT_AUDIT_FAILURE == EVENTLOG_AUDIT_FAILURE);
+    CHECK(EVENTLOG_WANT_SUCCESS == 32);
+    CHECK((EVENTLOG_WANT_ERROR | EVENTLOG_WANT_WARNING | EVENTLOG_WANT_INFORMATION | EVENTLOG_WANT_AUDIT_SUCCESS
+           | EVENTLOG_WANT_AUDIT_FAILURE | EVENTLOG_WANT_SUCCESS) == EVENTLOG_WANT_ALL);
+    CHECK(eventlog_types_count(EVENTLOG_WANT_ALL) == 6 && eventlog_types_count(EVENTLOG_WANT_SUCCESS) == 1);
+    CHECK(eventlog_fresh(EVENTLOG_WANT_ALL).types == EVENTLOG_WANT_ALL);
 }
 
 static void messages(void)
@@ -126,11 +140,14 @@ static void limits(void)
     CHECK(eventlog_write_event(EVENTLOG_UNICODE, 1, &event, out, sizeof out).refusal == EVENTLOG_REFUSED_LENGTH);
     memset(zeros, 0, sizeof zeros);
 
-    r = eventlog_read(EVENTLOG_UNICODE, eventlog_fresh(), NULL, 0, EVENTLOG_SEQUENTIAL | EVENTLOG_FORWARDS, 0,
-                      EVENTLOG_MAX_READ, out, sizeof out);
+    r = eventlog_read(EVENTLOG_UNICODE, eventlog_fresh(EVENTLOG_WANT_ALL), NULL, 0,
+                      EVENTLOG_SEQUENTIAL | EVENTLOG_FORWARDS, 0, EVENTLOG_MAX_READ, out, sizeof out);
     CHECK(r.status == EVENTLOG_STATUS_END_OF_FILE);
-    r = eventlog_read(EVENTLOG_UNICODE, eventlog_fresh(), NULL, 0, EVENTLOG_SEQUENTIAL | EVENTLOG_FORWARDS, 0,
-                      EVENTLOG_MAX_READ + 1, out, sizeof out);
+    r = eventlog_read(EVENTLOG_UNICODE, eventlog_fresh(EVENTLOG_WANT_ALL), NULL, 0,
+                      EVENTLOG_SEQUENTIAL | EVENTLOG_FORWARDS, 0, EVENTLOG_MAX_READ + 1, out, sizeof out);
+    CHECK(r.status == EVENTLOG_STATUS_INVALID_PARAMETER);
+    r = eventlog_read(EVENTLOG_UNICODE, eventlog_fresh(EVENTLOG_WANT_ALL + 1), NULL, 0,
+                      EVENTLOG_SEQUENTIAL | EVENTLOG_FORWARDS, 0, EVENTLOG_MAX_READ, out, sizeof out);
     CHECK(r.status == EVENTLOG_STATUS_INVALID_PARAMETER);
     w = eventlog_listing(EVENTLOG_UNICODE, NULL, 0, out, EVENTLOG_LISTING_ROOM);
     CHECK(w.refusal == EVENTLOG_NOT_REFUSED);
@@ -172,6 +189,7 @@ static void literals(void)
 int main(void)
 {
     numbers();
+    types();
     messages();
     limits();
     editions();

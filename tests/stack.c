@@ -59,7 +59,8 @@ static uint32_t edition;
 static volatile size_t kept;
 
 static void nothing(void) { kept = 0; }
-static void fresh(void) { kept = eventlog_fresh().boundary; }
+static void fresh(void) { kept = eventlog_fresh(EVENTLOG_WANT_ALL).types; }
+static void types_count(void) { kept = eventlog_types_count(EVENTLOG_WANT_ALL); }
 static void step(void) { kept = eventlog_step(edition, batch, used, 0).found.length; }
 static void step_back(void) { kept = eventlog_step_back(edition, batch, used, used).found.length; }
 static void refusal(void) { kept = eventlog_refusal(edition, batch, used, 0).refusal; }
@@ -85,14 +86,19 @@ static void card_judge(void) { kept = eventlog_card_judge(out, 400 * EVENTLOG_CA
 static void to_utf16(void) { kept = eventlog_windows_1252_to_utf16(name, 1000, out, sizeof out).length; }
 static void from_utf16(void) { kept = eventlog_windows_1252_from_utf16(out, 2000, batch + used, 1000).length; }
 
-static void read_with(uint32_t flags)
+static void read_with(uint32_t flags, uint32_t types)
 {
-    kept = eventlog_read(edition, eventlog_fresh(), batch, used, flags, 0, sizeof out, out, sizeof out).read;
+    kept = eventlog_read(edition, eventlog_fresh(types), batch, used, flags, 0, sizeof out, out, sizeof out).read;
 }
 
-static void forwards(void) { read_with(EVENTLOG_SEQUENTIAL | EVENTLOG_FORWARDS); }
-static void backwards(void) { read_with(EVENTLOG_SEQUENTIAL | EVENTLOG_BACKWARDS); }
-static void seek(void) { read_with(EVENTLOG_SEEK | EVENTLOG_BACKWARDS); }
+static void forwards(void) { read_with(EVENTLOG_SEQUENTIAL | EVENTLOG_FORWARDS, EVENTLOG_WANT_ALL); }
+static void backwards(void) { read_with(EVENTLOG_SEQUENTIAL | EVENTLOG_BACKWARDS, EVENTLOG_WANT_ALL); }
+static void seek(void) { read_with(EVENTLOG_SEEK | EVENTLOG_BACKWARDS, EVENTLOG_WANT_ALL); }
+
+/* The last record alone is an error, the first alone a warning: the others are skipped. */
+static void skipping(void) { read_with(EVENTLOG_SEQUENTIAL | EVENTLOG_FORWARDS, EVENTLOG_WANT_ERROR); }
+static void skipping_back(void) { read_with(EVENTLOG_SEQUENTIAL | EVENTLOG_BACKWARDS, EVENTLOG_WANT_WARNING); }
+static void seek_skipping(void) { read_with(EVENTLOG_SEEK | EVENTLOG_BACKWARDS, EVENTLOG_WANT_WARNING); }
 
 int main(void)
 {
@@ -100,24 +106,30 @@ int main(void)
         const char *name;
         void (*call)(void);
     } calls[] = {
-        {"fresh", fresh}, {"step", step}, {"step_back", step_back}, {"refusal", refusal}, {"string", string},
-        {"string_refusal", string_refusal}, {"next_string", next_string}, {"walk", walk}, {"walk_back", walk_back},
-        {"write", write_event}, {"append", append}, {"read forwards", forwards}, {"read backwards", backwards},
-        {"read seek", seek}, {"listing", listing}, {"card_blocks", card_blocks}, {"card_write", card_write},
-        {"card_read", card_read}, {"card_judge", card_judge}, {"to_utf16", to_utf16},
-        {"from_utf16", from_utf16},
+        {"fresh", fresh}, {"types_count", types_count}, {"step", step}, {"step_back", step_back}, {"refusal", refusal},
+        {"string", string}, {"string_refusal", string_refusal}, {"next_string", next_string}, {"walk", walk},
+        {"walk_back", walk_back}, {"write", write_event}, {"append", append}, {"read forwards", forwards},
+        {"read backwards", backwards}, {"read seek", seek}, {"read forwards, skipping", skipping},
+        {"read backwards, skipping", skipping_back}, {"read seek, skipping", seek_skipping}, {"listing", listing},
+        {"card_blocks", card_blocks}, {"card_write", card_write}, {"card_read", card_read},
+        {"card_judge", card_judge}, {"to_utf16", to_utf16}, {"from_utf16", from_utf16},
     };
     memset(name, 1, sizeof name);
     size_t most = 0, base = used_by(nothing);
     for (edition = EVENTLOG_UNICODE; edition <= EVENTLOG_ANSI; edition++) {
         /* Records numbered from 4,294,967,294 on, so that a listing has long numbers; a seek finds the third, 0. */
         used = eventlog_write_event(edition, UINT32_MAX - 1, &events[edition], batch, sizeof batch).length;
-        for (int i = 0; i < 3; i++)
+        size_t last = 0;
+        for (int i = 0; i < 3; i++) {
+            last = used;
             used = eventlog_append_event(edition, batch, sizeof batch, used, &events[edition]).used;
+        }
+        batch[24] = EVENTLOG_WARNING_TYPE;
+        batch[last + 24] = EVENTLOG_ERROR_TYPE;
         for (size_t i = 0; i < sizeof calls / sizeof *calls; i++) {
             kept = 0;
             size_t taken = used_by(calls[i].call) - base;
-            if (kept == 0 && calls[i].call != fresh && calls[i].call != refusal && calls[i].call != string_refusal
+            if (kept == 0 && calls[i].call != refusal && calls[i].call != string_refusal
                 && calls[i].call != card_judge) {
                 printf("stack.c: %s answers nothing, edition %u\n", calls[i].name, edition);
                 return 1;

@@ -13,7 +13,7 @@ use Rattle.eventlog.specs.Interface.{ReadServed, readHandle, readOutcome
 module _ (h : ReadHandle) (a : Answer) (out : List ℕ) where
   abbrev chosen : ℕ → Bool → ReadServed
   chosen status b =
-      readOutcome (record { status = status; read = a .read; needed = a .needed; handle = cond b (readHandle (a .handle .place)) h }) out
+      readOutcome (record { status = status; read = a .read; needed = a .needed; handle = cond b (readHandle (a .handle .place) (a .handle .types)) h }) out
 
   pub read-done : a .status ≡ 0 → chosen 0 true ≡ answered h (served a out)
   read-done e = ap₂ chosen (sym e) (sym (eq-eqb (a .status) 0 e))

@@ -37,15 +37,15 @@ abbrev pub placed : ℕ → ℕ → Place
 placed kind b = cond (eqb kind 0) Fresh (Boundary b)
 
 abbrev pub handleOf : ReadHandle → Handle
-handleOf h = record { place = placed (h .kind) (h .boundary) }
+handleOf h = record { place = placed (h .kind) (h .boundary); types = h .types }
 
 -- Rule 8.25: a handle that is answered
-abbrev pub readHandle : Place → ReadHandle
-readHandle Fresh = record { kind = 0; boundary = 0 }
-readHandle (Boundary b) = record { kind = 1; boundary = b }
+abbrev pub readHandle : Place → ℕ → ReadHandle
+readHandle Fresh types = record { kind = 0; types = types; boundary = 0 }
+readHandle (Boundary b) types = record { kind = 1; types = types; boundary = b }
 
-abbrev pub freshRead : ReadHandle
-freshRead = readHandle Fresh
+abbrev pub freshRead : ℕ → ReadHandle
+freshRead types = readHandle Fresh types
 
 -- Rule 8.25: what a read call answers and leaves
 pub record ReadServed : Type 0 where
@@ -64,7 +64,7 @@ answered h x =
             status = x .answer .status;
             read = x .answer .read;
             needed = x .answer .needed;
-            handle = cond (eqb (x .answer .status) 0) (readHandle (x .answer .handle .place)) h;
+            handle = cond (eqb (x .answer .status) 0) (readHandle (x .answer .handle .place) (x .answer .handle .types)) h;
           };
       output = x .output;
     }

@@ -1,13 +1,15 @@
 pub mod Ahead
 pub mod Arguments
 pub mod Counting
+pub mod Entries
 pub mod Found
 pub mod Judging
-pub mod Placed
 pub mod Reading
 pub mod Refusing
 pub mod Requests
 pub mod Seeking
 pub mod Series
+pub mod Sets
 pub mod Sought
 pub mod Turning
+pub mod Wanted

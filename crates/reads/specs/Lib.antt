@@ -4,3 +4,4 @@ pub mod Model
 pub mod Samples
 pub mod Series
 pub mod Theorems
+pub mod WithoutSets

@@ -155,20 +155,22 @@ fn show_start(out: &[u8; 300]) {
 }
 
 fn reads() {
-    let h = eventlog::eventlog_fresh();
+    let h = eventlog::eventlog_fresh(63);
     line(b"fresh", &[h.kind as u64, h.boundary as u64]);
     let h = read(b"backwards, 116", h, 9, 0, 116);
     let h = read(b"forwards, 115", h, 5, 0, 115);
     let h = read(b"forwards, 116", h, 5, 0, 116);
     read(b"forwards again", h, 5, 0, 116);
-    read(b"seek 8", eventlog::eventlog_fresh(), 6, 8, 104);
+    read(b"seek 8", eventlog::eventlog_fresh(63), 6, 8, 104);
     let odd = ReadHandle {
         kind: 7,
+        types: 63,
         boundary: 284,
     };
     read(b"a handle of kind 7, forwards", odd, 5, 0, 300);
     let odd = ReadHandle {
         kind: 0,
+        types: 63,
         boundary: 99,
     };
     read(b"a handle of kind 0 with a boundary, size 0", odd, 5, 0, 0);

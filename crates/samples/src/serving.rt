@@ -64,19 +64,20 @@ fn read(what: &[u8], h: Handle, log: &[u8; 284], flags: u32, number: u32, size: 
 }
 
 fn fresh(what: &[u8], log: &[u8; 284], flags: u32, number: u32, size: usize) {
-    read(what, Handle::fresh(), log, flags, number, size);
+    read(what, Handle::fresh(0x3F), log, flags, number, size);
 }
 
 fn at(what: &[u8], b: usize, log: &[u8; 284], flags: u32, number: u32, size: usize) {
     let h = Handle {
         place: Place::Boundary(b),
+        types: 0x3F,
     };
     read(what, h, log, flags, number, size);
 }
 
 fn sequences() {
     let log = log();
-    let h = read(b"forwards, 64", Handle::fresh(), &log, FORWARDS, 9, 64);
+    let h = read(b"forwards, 64", Handle::fresh(0x3F), &log, FORWARDS, 9, 64);
     let h = read(b"then 103", h, &log, FORWARDS, 0, 103);
     let h = read(b"then 219", h, &log, FORWARDS, 0, 219);
     let h = read(b"then backwards, 300", h, &log, BACKWARDS, 0, 300);
@@ -149,7 +150,7 @@ fn damaged() {
 // A read of an empty log into no bytes.
 fn empty(what: &[u8], flags: u32, number: u32) {
     let mut out = [0u8; 0];
-    let a = Handle::fresh().read(Edition::Unicode, b"", flags, number, 0, &mut out);
+    let a = Handle::fresh(0x3F).read(Edition::Unicode, b"", flags, number, 0, &mut out);
     show(what, a, &out);
 }
 
@@ -162,16 +163,16 @@ fn empty_log() {
 // The largest size, and one more, of an empty log.
 fn largest() {
     let mut out = [0xaau8; 524289];
-    let a = Handle::fresh().read(Edition::Unicode, b"", FORWARDS, 0, 524287, &mut out);
+    let a = Handle::fresh(0x3F).read(Edition::Unicode, b"", FORWARDS, 0, 524287, &mut out);
     show(b"size 524287", a, &out);
-    let a = Handle::fresh().read(Edition::Unicode, b"", FORWARDS, 0, 524288, &mut out);
+    let a = Handle::fresh(0x3F).read(Edition::Unicode, b"", FORWARDS, 0, 524288, &mut out);
     show(b"size 524288", a, &out);
 }
 
 // The whole output of a read, each way.
 fn outputs(log: &[u8; 284]) {
     let mut out = [0xaau8; 170];
-    let a = Handle::fresh().read(
+    let a = Handle::fresh(0x3F).read(
         Edition::Unicode,
         part(log, 0, 168),
         BACKWARDS,

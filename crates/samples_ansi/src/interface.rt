@@ -119,7 +119,7 @@ fn show_start(out: &[u8; 256]) {
 }
 
 fn reads(e: u32, log: &[u8; 256]) {
-    let h = eventlog::eventlog_fresh();
+    let h = eventlog::eventlog_fresh(63);
     let h = read(b"forwards", e, h, log, 5);
     read(b"then backwards", e, h, log, 9);
     read(b"seek 8 backwards", e, h, log, 10);

@@ -78,12 +78,12 @@ fn read(what: &[u8], h: Handle, log: &[u8; 256], flags: u32, number: u32, size: 
 }
 
 fn fresh(what: &[u8], log: &[u8; 256], flags: u32, number: u32, size: usize) {
-    read(what, Handle::fresh(), log, flags, number, size);
+    read(what, Handle::fresh(0x3F), log, flags, number, size);
 }
 
 fn sequences() {
     let log = log();
-    let h = read(b"forwards, 64", Handle::fresh(), &log, FORWARDS, 9, 64);
+    let h = read(b"forwards, 64", Handle::fresh(0x3F), &log, FORWARDS, 9, 64);
     let h = read(b"then 91", h, &log, FORWARDS, 0, 91);
     let h = read(b"then 192", h, &log, FORWARDS, 0, 192);
     let h = read(b"then backwards, 192", h, &log, BACKWARDS, 0, 192);
@@ -104,7 +104,7 @@ fn seeks() {
 
 // A fresh handle, and the other edition.
 fn other(what: &[u8], log: &[u8], e: Edition, flags: u32, number: u32) {
-    read_in(what, e, Handle::fresh(), log, flags, number, 270);
+    read_in(what, e, Handle::fresh(0x3F), log, flags, number, 270);
 }
 
 fn other_of(what: &[u8], log: &[u8; 256], flags: u32, number: u32) {
@@ -146,7 +146,7 @@ fn of_unicode(log: &[u8; 168]) {
 // What was delivered: 1, how much and the place after it; 2 for the end, 3 for a record that is refused, 4 and the
 // Length of one that is too long.
 fn delivered(what: &[u8], e: Edition, d: Direction, log: &[u8; 256], from: usize, out: &mut [u8]) {
-    let x = delivery::deliver(e, d, log, from, out);
+    let x = delivery::deliver(e, d, log, 0x3F, from, out);
     match x {
         Delivered::Records { read, place } => line(what, &[1, read as u64, place as u64]),
         Delivered::End => line(what, &[2]),

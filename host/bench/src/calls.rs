@@ -3,6 +3,15 @@
 
 use plain::Edition;
 
+/// How a log is read: the flags, the set of types, and the bytes of all records
+/// that have one of them.
+#[derive(Clone, Copy)]
+pub struct Served {
+    pub flags: u32,
+    pub types: u32,
+    pub wanted: usize,
+}
+
 /// The same edition of another library.
 macro_rules! edition_of {
     ($library:ident) => {
@@ -17,8 +26,8 @@ macro_rules! edition_of {
 
 /// The proved library, through the binding; and its searches by themselves.
 pub mod proved {
-    use super::Edition;
-    use eventlog::{Handle, Status, StoppedWalk};
+    use super::{Edition, Served};
+    use eventlog::{Handle, Status, StoppedWalk, Types};
 
     edition_of!(eventlog);
 
@@ -36,9 +45,14 @@ pub mod proved {
     }
 
     /// Reads the whole log, one direction; answers the bytes read.
-    pub fn serve(e: Edition, log: &[u8], flags: u32, out: &mut [u8]) -> usize {
+    pub fn serve(e: Edition, log: &[u8], served: Served, out: &mut [u8]) -> usize {
         let edition = edition(e);
-        let mut handle = Handle::fresh();
+        let Served {
+            flags,
+            types,
+            wanted,
+        } = served;
+        let mut handle = Handle::fresh(Types::from_bits(types));
         let mut sum = 0;
         loop {
             match handle.read_with_flags(edition, log, flags, 0, out.len(), out) {
@@ -47,7 +61,7 @@ pub mod proved {
                     handle = batch.handle;
                 }
                 Err(error) => {
-                    assert_eq!((error.status, sum), (Status::EndOfFile, log.len()));
+                    assert_eq!((error.status, sum), (Status::EndOfFile, wanted));
                     return sum;
                 }
             }
@@ -128,8 +142,8 @@ pub mod by_unit {
 macro_rules! ordinary {
     ($module:ident, $library:ident) => {
         pub mod $module {
-            use super::Edition;
-            use $library::{status, Handle};
+            use super::{Edition, Served};
+            use $library::{status, Handle, Types};
 
             edition_of!($library);
 
@@ -141,14 +155,19 @@ macro_rules! ordinary {
                 $library::walk_back(edition(e), log).count
             }
 
-            pub fn serve(e: Edition, log: &[u8], flags: u32, out: &mut [u8]) -> usize {
+            pub fn serve(e: Edition, log: &[u8], served: Served, out: &mut [u8]) -> usize {
                 let edition = edition(e);
-                let mut handle = Handle::fresh();
+                let Served {
+                    flags,
+                    types,
+                    wanted,
+                } = served;
+                let mut handle = Handle::fresh(Types(types));
                 let mut sum = 0;
                 loop {
                     let answer = handle.read(edition, log, flags, 0, out.len(), out);
                     if answer.status != 0 {
-                        assert_eq!((answer.status, sum), (status::END_OF_FILE, log.len()));
+                        assert_eq!((answer.status, sum), (status::END_OF_FILE, wanted));
                         return sum;
                     }
                     sum += answer.read;

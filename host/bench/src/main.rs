@@ -9,10 +9,11 @@ mod table;
 use std::hint::black_box;
 use std::ops::RangeInclusive;
 
-use calls::{by_unit, proved, tuned, untuned};
-use compare::make::{text, width, Made, MAX_DATA};
+use calls::{by_unit, proved, tuned, untuned, Served};
+use compare::make::{get, starts, text, width, Made, MAX_DATA, TYPES};
 use compare::random::Random;
 use plain::Edition::{self, Ansi, Unicode};
+use plain::Types;
 use table::{Table, Work};
 
 /// All is measured so many times, one table after the other.
@@ -32,12 +33,16 @@ const SEARCHED: usize = 60_000;
 /// Bytes behind a text that is searched, as a record has them.
 const BEHIND: usize = 200;
 
-/// Records of about this Length, as many as fit into a batch.
+/// Every sixth record of a batch has this type.
+const ONE_TYPE: u16 = 4;
+
+/// Records of about this Length, of each type in turn, as many as fit into a batch.
 fn batch(edition: Edition, rng: &mut Random, length: usize) -> Vec<u8> {
     let mut out = Vec::with_capacity(BATCH);
     for number in 1.. {
         let mut made = Made::new(edition);
         made.fields.record_number = number;
+        made.fields.event_type = TYPES[number as usize % TYPES.len()];
         if length < 500 {
             made.source = text(edition, rng, 5);
             made.computer = text(edition, rng, 4);
@@ -101,18 +106,39 @@ fn batch_rows(table: &mut Table<3>, edition: Edition, name: &str, log: &[u8]) {
     };
     let mut outs = [(); 3].map(|()| vec![0; size]);
     let [a, b, c] = &mut outs;
-    for (direction, flags) in [("forwards", 5), ("backwards", 9)] {
-        table.row(
-            &format!("read {direction}, {name}"),
-            ROUNDS,
-            1.0,
-            &mut [
-                &mut || proved::serve(edition, black_box(log), flags, a),
-                &mut || tuned::serve(edition, black_box(log), flags, b),
-                &mut || untuned::serve(edition, black_box(log), flags, c),
-            ],
-        );
+    // All types, and one of the six.
+    let all = ("", Types::ALL.0, log.len());
+    let one = (
+        ", one type of six",
+        u32::from(ONE_TYPE),
+        bytes_of(edition, log, ONE_TYPE),
+    );
+    for (which, types, wanted) in [all, one] {
+        for (direction, flags) in [("forwards", 5), ("backwards", 9)] {
+            let served = Served {
+                flags,
+                types,
+                wanted,
+            };
+            table.row(
+                &format!("read {direction}, {name}{which}"),
+                ROUNDS,
+                1.0,
+                &mut [
+                    &mut || proved::serve(edition, black_box(log), served, a),
+                    &mut || tuned::serve(edition, black_box(log), served, b),
+                    &mut || untuned::serve(edition, black_box(log), served, c),
+                ],
+            );
+        }
     }
+}
+
+/// The bytes of the records of one type.
+fn bytes_of(edition: Edition, log: &[u8], event_type: u16) -> usize {
+    let starts = starts(edition, log).into_iter();
+    let of_type = starts.filter(|at| get(log, at + 24, 2) == event_type.into());
+    of_type.map(|at| get(log, at, 4) as usize).sum()
 }
 
 /// Many walks of one record with a long name.
@@ -381,6 +407,7 @@ fn main() {
     println!(
         "A batch has 16 MiB; reads ask 64 KiB, those of records of 256 KiB all that a read may,"
     );
-    println!("524,287 bytes; the output is not cleared between reads.\n");
+    println!("524,287 bytes; the output is not cleared between reads. The records have the six");
+    println!("types in turn, and reads want all of them where the row does not say otherwise.\n");
     calls.print(1e-3);
 }

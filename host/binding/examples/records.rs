@@ -1,13 +1,13 @@
 //! Prints the records of a log, appends an entry to it in memory, and reads the
-//! log back from the rear.
+//! log back: all of it from the rear, and then its errors and warnings.
 
 use std::error::Error;
 use std::io::{self, Write};
 use std::{env, fs};
 
 use eventlog::{
-    Direction, Edition, Event, Handle, MAX_LENGTH, MAX_READ, ReadKind, Record, Status, append,
-    event_type, records, utf16,
+    Direction, Edition, Event, Handle, MAX_LENGTH, MAX_READ, ReadKind, Record, Status, Types,
+    append, event_type, records, utf16,
 };
 
 /// The log's texts are UTF-16.
@@ -50,19 +50,25 @@ pub fn run(mut log: Vec<u8>, out: &mut dyn Write) -> Result<(), Box<dyn Error>> 
     log.resize(used + MAX_LENGTH, 0);
     let used = append(EDITION, &mut log, used, &repair)?;
 
+    let log = &log[..used];
     writeln!(out, "from the rear:")?;
-    let (log, mut batch) = (&log[..used], vec![0; MAX_READ]);
-    let mut handle = Handle::fresh();
+    print_types(log, Direction::Backwards, Types::ALL, out)?;
+    writeln!(out, "errors and warnings:")?;
+    print_types(log, Direction::Forwards, Types::ERROR | Types::WARNING, out)
+}
+
+/// Reads the records of these types, all of them one way, and prints them.
+fn print_types(
+    log: &[u8],
+    direction: Direction,
+    types: Types,
+    out: &mut dyn Write,
+) -> Result<(), Box<dyn Error>> {
+    let mut batch = vec![0; MAX_READ];
+    let mut handle = Handle::fresh(types);
     loop {
-        let size = batch.len();
-        match handle.read(
-            EDITION,
-            log,
-            ReadKind::Sequential,
-            Direction::Backwards,
-            size,
-            &mut batch,
-        ) {
+        let (kind, size) = (ReadKind::Sequential, batch.len());
+        match handle.read(EDITION, log, kind, direction, size, &mut batch) {
             Ok(read) => {
                 for record in read.records() {
                     print(&record?, out)?;

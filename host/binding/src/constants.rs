@@ -62,11 +62,11 @@ pub const MAX_DATA: usize = 61_440;
 /// The most that one read may ask for, in bytes.
 ///
 /// ```
-/// use eventlog::{Direction, Edition::Unicode, Handle, ReadKind, Status, MAX_READ};
+/// use eventlog::{Direction, Edition::Unicode, Handle, ReadKind, Status, Types, MAX_READ};
 /// let mut out = vec![0; MAX_READ + 1];
 /// let mut status = |size| {
 ///     let kind = ReadKind::Sequential;
-///     let empty = Handle::fresh().read(Unicode, &[], kind, Direction::Forwards, size, &mut out);
+///     let empty = Handle::fresh(Types::ALL).read(Unicode, &[], kind, Direction::Forwards, size, &mut out);
 ///     empty.unwrap_err().status
 /// };
 /// assert_eq!(status(MAX_READ), Status::EndOfFile);
@@ -160,9 +160,9 @@ pub mod event_type {
 /// first two with one of the last two.
 ///
 /// ```
-/// use eventlog::{flags, Edition::Unicode, Handle, Status};
+/// use eventlog::{flags, Edition::Unicode, Handle, Status, Types};
 /// let wrong = flags::SEQUENTIAL | flags::SEEK | flags::FORWARDS;
-/// let refused = Handle::fresh().read_with_flags(Unicode, &[], wrong, 0, 0, &mut []);
+/// let refused = Handle::fresh(Types::ALL).read_with_flags(Unicode, &[], wrong, 0, 0, &mut []);
 /// assert_eq!(refused.unwrap_err().status, Status::InvalidParameter);
 /// ```
 pub mod flags {

@@ -1,6 +1,8 @@
 //! The calls of `include/eventlog.h`, each behind a safe function: the only
 //! unsafe code. A slice goes over as pointer and length.
 
+use core::mem::offset_of;
+
 use crate::{Edition, Event};
 
 #[repr(C)]
@@ -99,6 +101,7 @@ pub(crate) struct Appended {
 #[derive(Clone, Copy, Debug, PartialEq, Eq)]
 pub(crate) struct Handle {
     pub kind: u32,
+    pub types: u32,
     pub boundary: usize,
 }
 
@@ -120,6 +123,7 @@ const _: () = {
     assert!(size_of::<Walked>() == 32);
     assert!(size_of::<Written>() == 16 && size_of::<Appended>() == 24);
     assert!(size_of::<Handle>() == 16 && size_of::<Answer>() == 40);
+    assert!(offset_of!(Handle, types) == 4 && offset_of!(Handle, boundary) == 8);
 };
 
 unsafe extern "C" {
@@ -187,7 +191,8 @@ unsafe extern "C" {
         event_data: *const u8,
         event_data_len: usize,
     ) -> Appended;
-    fn eventlog_fresh() -> Handle;
+    fn eventlog_fresh(types: u32) -> Handle;
+    fn eventlog_types_count(types: u32) -> u32;
     fn eventlog_read(
         edition: u32,
         handle: Handle,
@@ -342,9 +347,14 @@ pub(crate) fn append(edition: Edition, log: &mut [u8], used: usize, e: &Event<'_
     }
 }
 
-pub(crate) fn fresh() -> Handle {
-    // SAFETY: takes nothing.
-    unsafe { eventlog_fresh() }
+pub(crate) fn fresh(types: u32) -> Handle {
+    // SAFETY: takes any number.
+    unsafe { eventlog_fresh(types) }
+}
+
+pub(crate) fn types_count(types: u32) -> u32 {
+    // SAFETY: takes any number.
+    unsafe { eventlog_types_count(types) }
 }
 
 pub(crate) fn read(
@@ -444,6 +454,12 @@ mod tests {
         event_data: &[1, 2, 3],
     };
     const LENGTH: usize = 104;
+    /// The set of its type, that of all six, that of the other five, and a set
+    /// of a bit that is no type's.
+    const WANTED: u32 = 32;
+    const ALL: u32 = 63;
+    const OTHERS: u32 = ALL - WANTED;
+    const HIGH: u32 = 1 << 31;
 
     fn record() -> Vec<u8> {
         let mut record = vec![0; LENGTH];
@@ -674,20 +690,35 @@ mod tests {
     fn refused_reads_read_nothing() {
         let whole = [record(), record()].concat();
         let broken = [record(), changed(&[(4, 0)])].concat();
-        let boundary = |boundary| Handle { kind: 1, boundary };
+        let of = |kind, types, boundary| Handle {
+            kind,
+            types,
+            boundary,
+        };
+        let (fresh, boundary) = (fresh(ALL), |boundary| of(1, ALL, boundary));
         let end = whole.len();
         let mut out = [0xEE; 208];
         for (status, needed, log, handle, flags, number, size) in [
             (0xC000_000D, 0, &whole, boundary(LENGTH), 0, 0, LENGTH),
-            (0xC000_000D, 0, &whole, fresh(), 5, 0, end + 1),
-            (0xC000_000D, 0, &whole, fresh(), 6, 9, end),
+            (0xC000_000D, 0, &whole, fresh, 5, 0, end + 1),
+            (0xC000_000D, 0, &whole, fresh, 6, 9, end),
+            // A set with another bit; every member comes back.
+            (0xC000_000D, 0, &whole, of(0, 64, 9), 5, 0, end),
+            (0xC000_000D, 0, &whole, of(7, u32::MAX, end + 1), 9, 0, end),
+            (0xC000_000D, 0, &whole, of(1, HIGH, 9), 6, NUMBER, end),
             (0xC000_0008, 0, &whole, boundary(end + 1), 5, 0, end),
             (0xC000_0011, 0, &whole, boundary(end), 5, 0, end),
             (0xC000_0011, 0, &whole, boundary(0), 9, 0, end),
-            (0xC000_0023, LENGTH, &whole, fresh(), 5, 0, LENGTH - 1),
+            // The record's type is not wanted.
+            (0xC000_0011, 0, &whole, of(7, OTHERS, LENGTH), 5, 0, end),
+            (0xC000_0011, 0, &whole, of(0, 0, 9), 9, 0, end),
+            (0xC000_0011, 0, &whole, of(0, 0, 9), 6, NUMBER, end),
+            (0xC000_018E, 0, &broken, of(0, OTHERS, 0), 5, 0, 0),
+            (0xC000_0023, LENGTH, &whole, of(7, WANTED, LENGTH), 5, 0, 0),
+            (0xC000_0023, LENGTH, &whole, fresh, 5, 0, LENGTH - 1),
             (0xC000_0023, LENGTH, &whole, boundary(LENGTH), 9, 0, 0),
             (0xC000_018E, 0, &broken, boundary(LENGTH), 5, 0, end),
-            (0xC000_018E, 0, &broken, fresh(), 6, 9, end),
+            (0xC000_018E, 0, &broken, fresh, 6, 9, end),
         ] {
             let refused = Answer {
                 status,
@@ -705,18 +736,22 @@ mod tests {
 
     #[test]
     fn a_read_needs_nothing() {
-        let read = read(Unicode, fresh(), &record(), 5, 0, LENGTH, &mut [0; LENGTH]);
-        let handle = Handle {
-            kind: 1,
-            boundary: LENGTH,
-        };
-        let expected = Answer {
-            status: 0,
-            read: LENGTH,
-            needed: 0,
-            handle,
-        };
-        assert_eq!(read, expected);
+        for types in [ALL, WANTED, WANTED + 1] {
+            let (log, mut out) = (record(), [0; LENGTH]);
+            let read = read(Unicode, fresh(types), &log, 5, 0, LENGTH, &mut out);
+            let handle = Handle {
+                kind: 1,
+                types,
+                boundary: LENGTH,
+            };
+            let expected = Answer {
+                status: 0,
+                read: LENGTH,
+                needed: 0,
+                handle,
+            };
+            assert_eq!(read, expected);
+        }
     }
 
     /// Sample T in ANSI, and what each call answers of it in the other edition.
@@ -748,7 +783,7 @@ mod tests {
             let none = if number == 0 { 0 } else { 17 };
             assert_eq!(next_string(edition, &log, run, run.at).refusal, none);
             let status = if number == 0 { 0 } else { 0xC000_018E };
-            let answer = read(edition, fresh(), &log, 5, 0, end, &mut vec![0; end]);
+            let answer = read(edition, fresh(ALL), &log, 5, 0, end, &mut vec![0; end]);
             assert_eq!(answer.status, status);
             // "records 2", or "refused 12".
             let mut text = [0; 200];
@@ -761,23 +796,35 @@ mod tests {
 
     #[test]
     fn every_kind_but_0_is_a_boundary() {
-        assert_eq!(fresh().kind, 0);
+        let of = |kind, boundary| Handle {
+            kind,
+            types: ALL,
+            boundary,
+        };
+        assert_eq!(fresh(ALL), of(0, 0));
         for kind in [1, 2, 7, u32::MAX] {
-            let past = Handle { kind, boundary: 1 };
+            let past = of(kind, 1);
             let answer = read(Unicode, past, &[], 5, 0, 0, &mut []);
             assert_eq!((answer.status, answer.handle), (0xC000_0008, past));
-            let end = Handle { kind, boundary: 0 };
-            assert_eq!(
-                read(Unicode, end, &[], 5, 0, 0, &mut []).status,
-                0xC000_0011
-            );
+            let answer = read(Unicode, of(kind, 0), &[], 5, 0, 0, &mut []);
+            assert_eq!(answer.status, 0xC000_0011);
         }
         // A fresh handle's boundary is not looked at.
-        let fresh = Handle {
-            kind: 0,
-            boundary: 9,
-        };
+        let fresh = of(0, 9);
         let answer = read(Unicode, fresh, &[], 5, 0, 0, &mut []);
         assert_eq!((answer.status, answer.handle), (0xC000_0011, fresh));
+    }
+
+    #[test]
+    fn a_fresh_handle_has_any_set() {
+        for types in [0, 1, ALL, 64, u32::MAX] {
+            let handle = Handle {
+                kind: 0,
+                types,
+                boundary: 0,
+            };
+            assert_eq!(fresh(types), handle);
+        }
+        assert_eq!([0x3F, 0x21, 0x40, u32::MAX].map(types_count), [6, 2, 0, 6]);
     }
 }

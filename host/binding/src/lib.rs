@@ -48,6 +48,7 @@ mod read;
 mod record;
 mod refusal;
 mod text;
+mod types;
 mod walk;
 pub mod windows_1252;
 mod write;
@@ -63,5 +64,6 @@ pub use refusal::{Refusal, Refused};
 pub use text::{Run, Strings, Text, Units, next_string};
 #[doc(hidden)]
 pub use text::{utf16_bytes, utf16_len};
+pub use types::Types;
 pub use walk::{Records, RecordsBack, StoppedWalk, records, records_back, walk, walk_back};
 pub use write::{Event, append, listing, write};

@@ -6,6 +6,7 @@ use core::fmt;
 use crate::constants::flags;
 use crate::edition::Edition;
 use crate::ffi;
+use crate::types::Types;
 use crate::walk::{Records, records};
 
 /// Why a read is refused (NTSTATUS, under its name in MS-ERREF). Its text says
@@ -13,25 +14,26 @@ use crate::walk::{Records, records};
 ///
 /// ```
 /// use eventlog::Status;
-/// assert_eq!(Status::EndOfFile.to_string(), "no bytes are left in that direction");
+/// assert_eq!(Status::EndOfFile.to_string(), "no wanted record is left in that direction");
 /// ```
 #[non_exhaustive]
 #[derive(Clone, Copy, Debug, PartialEq, Eq, Hash)]
 pub enum Status {
     /// `STATUS_INVALID_HANDLE`: the handle's boundary is past the log's end.
     InvalidHandle,
-    /// `STATUS_INVALID_PARAMETER`: flags or size are wrong, or no record has the
-    /// number sought.
+    /// `STATUS_INVALID_PARAMETER`: flags, size or types are wrong, or no record
+    /// has the number sought.
     InvalidParameter,
-    /// `STATUS_END_OF_FILE`: no bytes are left in that direction.
+    /// `STATUS_END_OF_FILE`: no wanted record is left in that direction.
     EndOfFile,
-    /// `STATUS_BUFFER_TOO_SMALL`: the next record is longer than the size asked.
+    /// `STATUS_BUFFER_TOO_SMALL`: the next wanted record is longer than the size
+    /// asked.
     BufferTooSmall {
-        /// The next record's Length.
+        /// The next wanted record's Length.
         needed: usize,
     },
-    /// `STATUS_EVENTLOG_FILE_CORRUPT`: the next record, or one before the number
-    /// sought, is not good.
+    /// `STATUS_EVENTLOG_FILE_CORRUPT`: a record is met that is not good, before a
+    /// wanted one or before the number sought.
     EventlogFileCorrupt,
 }
 
@@ -71,10 +73,10 @@ impl fmt::Display for Status {
         f.write_str(match self {
             Status::InvalidHandle => "the handle's boundary is past the log's end",
             Status::InvalidParameter => {
-                "flags or size are wrong, or no record has the number sought"
+                "flags, size or types are wrong, or no record has the number sought"
             }
-            Status::EndOfFile => "no bytes are left in that direction",
-            Status::BufferTooSmall { .. } => "the next record is longer than the size asked",
+            Status::EndOfFile => "no wanted record is left in that direction",
+            Status::BufferTooSmall { .. } => "the next wanted record is longer than the size asked",
             Status::EventlogFileCorrupt => "a record that is not good is met",
         })
     }
@@ -101,48 +103,53 @@ pub enum Place {
 /// read the same one; so it is handed over and cannot be copied.
 ///
 /// ```
-/// use eventlog::{Handle, Place};
+/// use eventlog::{Handle, Place, Types};
 ///
-/// assert_eq!(Handle::fresh(), Handle { place: Place::Fresh });
+/// let handle = Handle { place: Place::Fresh, types: Types::ALL };
+/// assert_eq!(Handle::fresh(Types::ALL), handle);
 /// ```
 ///
 /// ```compile_fail
-/// let handle = eventlog::Handle::fresh();
+/// let handle = eventlog::Handle::fresh(eventlog::Types::ALL);
 /// let kept = handle;
 /// let again = handle;
 /// ```
-#[derive(Debug, Default, PartialEq, Eq, Hash)]
+#[derive(Debug, PartialEq, Eq, Hash)]
 pub struct Handle {
     /// Where the next sequential read goes on. Any one may be given.
     pub place: Place,
+    /// The types that its reads copy; each read hands them on. Any set may be
+    /// given; one with other bits is refused.
+    pub types: Types,
 }
 
 /// What a read starts from.
 ///
 /// ```
-/// use eventlog::{Direction, Edition::Unicode, Handle, ReadKind, Status};
+/// use eventlog::{Direction, Edition::Unicode, Handle, ReadKind, Status, Types};
 ///
-/// let sought = Handle::fresh().read(Unicode, &[], ReadKind::Seek(7), Direction::Forwards, 0, &mut []);
+/// let sought = Handle::fresh(Types::ALL).read(Unicode, &[], ReadKind::Seek(7), Direction::Forwards, 0, &mut []);
 /// assert_eq!(sought.unwrap_err().status, Status::InvalidParameter);
 /// ```
 #[derive(Clone, Copy, Debug, PartialEq, Eq, Hash)]
 pub enum ReadKind {
     /// From the handle's place on.
     Sequential,
-    /// From the first record on, from the front, that has this number.
+    /// From the first record on, from the front, that has this number, whatever
+    /// its type.
     Seek(u32),
 }
 
 /// Which way a read goes.
 ///
 /// ```
-/// use eventlog::{append, Direction, Edition::Unicode, Event, Handle, ReadKind};
+/// use eventlog::{append, Direction, Edition::Unicode, Event, Handle, ReadKind, Types};
 ///
 /// let (mut log, mut out) = ([0; 128], [0; 64]);
 /// let used = append(Unicode, &mut log, 0, &Event::default())?;
 /// append(Unicode, &mut log, used, &Event::default())?;
 /// for (direction, number) in [(Direction::Forwards, 1), (Direction::Backwards, 2)] {
-///     let batch = Handle::fresh().read(Unicode, &log, ReadKind::Sequential, direction, 64, &mut out)?;
+///     let batch = Handle::fresh(Types::ALL).read(Unicode, &log, ReadKind::Sequential, direction, 64, &mut out)?;
 ///     assert_eq!(batch.records().next().unwrap()?.record_number, number);
 /// }
 /// # Ok::<(), Box<dyn std::error::Error>>(())
@@ -158,12 +165,12 @@ pub enum Direction {
 /// What a read hands back.
 ///
 /// ```
-/// use eventlog::{append, Batch, Direction, Edition::Unicode, Event, Handle, Place, ReadKind};
+/// use eventlog::{append, Batch, Direction, Edition::Unicode, Event, Handle, Place, ReadKind, Types};
 ///
 /// let (mut log, mut out) = ([0; 64], [0; 100]);
 /// append(Unicode, &mut log, 0, &Event::default())?;
 /// let Batch { bytes, handle, .. } =
-///     Handle::fresh().read(Unicode, &log, ReadKind::Sequential, Direction::Forwards, 100, &mut out)?;
+///     Handle::fresh(Types::ALL).read(Unicode, &log, ReadKind::Sequential, Direction::Forwards, 100, &mut out)?;
 /// assert_eq!(bytes, log);
 /// assert_eq!(handle.place, Place::Boundary(64));
 /// # Ok::<(), Box<dyn std::error::Error>>(())
@@ -183,12 +190,12 @@ impl<'o> Batch<'o> {
     /// The records that were copied, in the order of reading.
     ///
     /// ```
-    /// use eventlog::{append, Direction, Edition::Unicode, Event, Handle, ReadKind};
+    /// use eventlog::{append, Direction, Edition::Unicode, Event, Handle, ReadKind, Types};
     ///
     /// let (mut log, mut out) = ([0; 64], [0; 64]);
     /// append(Unicode, &mut log, 0, &Event::default())?;
     /// let kind = ReadKind::Sequential;
-    /// let batch = Handle::fresh().read(Unicode, &log, kind, Direction::Forwards, 64, &mut out)?;
+    /// let batch = Handle::fresh(Types::ALL).read(Unicode, &log, kind, Direction::Forwards, 64, &mut out)?;
     /// assert_eq!(batch.records().count(), 1);
     /// # Ok::<(), Box<dyn std::error::Error>>(())
     /// ```
@@ -200,15 +207,15 @@ impl<'o> Batch<'o> {
 /// What a refused read hands back; it leaves the output as it was.
 ///
 /// ```
-/// use eventlog::{append, Direction, Edition::Unicode, Event, Handle, ReadKind, Status};
+/// use eventlog::{append, Direction, Edition::Unicode, Event, Handle, ReadKind, Status, Types};
 ///
 /// let mut log = [0; 64];
 /// append(Unicode, &mut log, 0, &Event::default())?;
-/// let refused = Handle::fresh().read(Unicode, &log, ReadKind::Sequential, Direction::Forwards, 0, &mut []);
+/// let refused = Handle::fresh(Types::ALL).read(Unicode, &log, ReadKind::Sequential, Direction::Forwards, 0, &mut []);
 /// let error = refused.unwrap_err();
 /// assert_eq!(error.status, Status::BufferTooSmall { needed: 64 });
-/// assert_eq!(error.handle, Handle::fresh());
-/// let text = "status 0xC0000023: the next record is longer than the size asked";
+/// assert_eq!(error.handle, Handle::fresh(Types::ALL));
+/// let text = "status 0xC0000023: the next wanted record is longer than the size asked";
 /// assert_eq!(error.to_string(), text);
 /// # Ok::<(), eventlog::Refused>(())
 /// ```
@@ -230,32 +237,33 @@ impl fmt::Display for ReadError {
 impl Error for ReadError {}
 
 impl Handle {
-    /// A handle with which nothing was read yet.
+    /// A handle for these types with which nothing was read yet.
     ///
     /// ```
-    /// use eventlog::{Handle, Place};
-    /// assert_eq!(Handle::fresh().place, Place::Fresh);
+    /// use eventlog::{Handle, Place, Types};
+    /// let handle = Handle::fresh(Types::ERROR);
+    /// assert_eq!((handle.place, handle.types), (Place::Fresh, Types::ERROR));
     /// ```
     #[must_use]
-    pub fn fresh() -> Self {
-        ffi::fresh().into()
+    pub fn fresh(types: Types) -> Self {
+        ffi::fresh(types.bits()).into()
     }
 
-    /// Copies to `out` as many records as fit in `size` bytes. The size is what
-    /// a client asks for; `out` may be longer, and nothing past the size is
-    /// written.
+    /// Copies to `out` as many records of the handle's types as fit in `size`
+    /// bytes; the others are judged and skipped. The size is what a client asks
+    /// for; `out` may be longer, and nothing past the size is written.
     ///
     /// # Errors
     ///
     /// [`ReadError`] with the first status that applies, and this handle.
     ///
     /// ```
-    /// use eventlog::{append, Direction, Edition::Unicode, Event, Handle, ReadKind, Status};
+    /// use eventlog::{append, Direction, Edition::Unicode, Event, Handle, ReadKind, Status, Types};
     ///
     /// let (mut log, mut out) = ([0; 128], [0; 100]);
     /// let used = append(Unicode, &mut log, 0, &Event::default())?;
     /// append(Unicode, &mut log, used, &Event::default())?;
-    /// let mut handle = Handle::fresh();
+    /// let mut handle = Handle::fresh(Types::ALL);
     /// let mut numbers = vec![];
     /// loop {
     ///     match handle.read(Unicode, &log, ReadKind::Sequential, Direction::Backwards, 100, &mut out) {
@@ -300,12 +308,12 @@ impl Handle {
     /// As [`read`](Handle::read).
     ///
     /// ```
-    /// use eventlog::{append, flags, Edition::Unicode, Event, Handle, Status};
+    /// use eventlog::{append, flags, Edition::Unicode, Event, Handle, Status, Types};
     ///
     /// let (mut log, mut out) = ([0; 64], [0; 64]);
     /// append(Unicode, &mut log, 0, &Event::default())?;
     /// let seek = flags::SEEK | flags::FORWARDS;
-    /// let batch = Handle::fresh().read_with_flags(Unicode, &log, seek, 1, 64, &mut out)?;
+    /// let batch = Handle::fresh(Types::ALL).read_with_flags(Unicode, &log, seek, 1, 64, &mut out)?;
     /// assert_eq!(batch.bytes.len(), 64);
     /// let error = batch.handle.read_with_flags(Unicode, &log, 0, 1, 64, &mut out).unwrap_err();
     /// assert_eq!(error.status, Status::InvalidParameter);
@@ -339,18 +347,21 @@ impl From<ffi::Handle> for Handle {
             0 => Place::Fresh,
             _ => Place::Boundary(handle.boundary),
         };
-        Handle { place }
+        let types = Types::from_bits(handle.types);
+        Handle { place, types }
     }
 }
 
 impl From<Handle> for ffi::Handle {
     fn from(handle: Handle) -> Self {
-        match handle.place {
-            Place::Fresh => ffi::Handle {
-                kind: 0,
-                boundary: 0,
-            },
-            Place::Boundary(boundary) => ffi::Handle { kind: 1, boundary },
+        let (kind, boundary) = match handle.place {
+            Place::Fresh => (0, 0),
+            Place::Boundary(boundary) => (1, boundary),
+        };
+        ffi::Handle {
+            kind,
+            types: handle.types.bits(),
+            boundary,
         }
     }
 }

@@ -169,7 +169,7 @@ fn served() {
     let log = ansi_s_t();
     let mut out = [0xAA; 200];
     let kind = ReadKind::Sequential;
-    let first = Handle::fresh().read(Ansi, &log, kind, Direction::Forwards, 64, &mut out);
+    let first = Handle::fresh(Types::ALL).read(Ansi, &log, kind, Direction::Forwards, 64, &mut out);
     let first = first.unwrap();
     assert_eq!((first.edition, first.bytes), (Ansi, &S[..]));
     let handle = first.handle;
@@ -180,7 +180,8 @@ fn served() {
     let second = small.handle.read_with_flags(Ansi, &log, 5, 0, 92, &mut out);
     assert_eq!(second.unwrap().bytes, ANSI_T);
 
-    let back = Handle::fresh().read(Ansi, &log, kind, Direction::Backwards, 156, &mut out);
+    let back =
+        Handle::fresh(Types::ALL).read(Ansi, &log, kind, Direction::Backwards, 156, &mut out);
     let back = back.unwrap();
     assert_eq!(back.bytes, [&ANSI_T[..], &S].concat());
     // The records of a batch are read in its edition.
@@ -194,7 +195,8 @@ fn served() {
         .read(Ansi, &log, kind, Direction::Backwards, 156, &mut out);
     assert_eq!(end.unwrap_err().status, Status::EndOfFile);
     let seek = ReadKind::Seek(T_NUMBER);
-    let sought = Handle::fresh().read(Ansi, &log, seek, Direction::Forwards, 156, &mut out);
+    let sought =
+        Handle::fresh(Types::ALL).read(Ansi, &log, seek, Direction::Forwards, 156, &mut out);
     assert_eq!(sought.unwrap().bytes, ANSI_T);
 }
 
@@ -233,7 +235,14 @@ fn read_in_the_other_edition() {
         let behind = behind.unwrap_err();
         assert_eq!((behind.refusal, behind.field), (Refusal::LogEnd, 48));
         let kind = ReadKind::Sequential;
-        let read = Handle::fresh().read(edition, &log, kind, Direction::Backwards, 400, &mut out);
+        let read = Handle::fresh(Types::ALL).read(
+            edition,
+            &log,
+            kind,
+            Direction::Backwards,
+            400,
+            &mut out,
+        );
         assert_eq!(read.unwrap_err().status, Status::EventlogFileCorrupt);
     }
 }

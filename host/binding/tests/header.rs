@@ -52,6 +52,13 @@ fn numbers() {
         ("INFORMATION_TYPE", u32::from(event_type::INFORMATION)),
         ("AUDIT_SUCCESS", u32::from(event_type::AUDIT_SUCCESS)),
         ("AUDIT_FAILURE", u32::from(event_type::AUDIT_FAILURE)),
+        ("WANT_ERROR", Types::ERROR.bits()),
+        ("WANT_WARNING", Types::WARNING.bits()),
+        ("WANT_INFORMATION", Types::INFORMATION.bits()),
+        ("WANT_AUDIT_SUCCESS", Types::AUDIT_SUCCESS.bits()),
+        ("WANT_AUDIT_FAILURE", Types::AUDIT_FAILURE.bits()),
+        ("WANT_SUCCESS", Types::SUCCESS.bits()),
+        ("WANT_ALL", Types::ALL.bits()),
     ] {
         assert_eq!(defined(&header, name), number, "{name}");
     }

@@ -275,11 +275,16 @@ fn every_field() {
 /// A read with these flags, and how much of the output it used.
 fn serve(place: Place, log: &[u8], flags: u32, number: u32, size: usize) -> (Vec<u8>, Served) {
     let mut out = vec![0xAA; 200];
-    let answer = Handle { place }.read_with_flags(Unicode, log, flags, number, size, &mut out);
-    let served = match answer {
-        Ok(batch) => Ok((batch.bytes.len(), batch.handle.place)),
-        Err(error) => Err((error.status, error.handle.place)),
+    let handle = Handle {
+        place,
+        types: Types::ALL,
     };
+    let answer = handle.read_with_flags(Unicode, log, flags, number, size, &mut out);
+    let (served, handle) = match answer {
+        Ok(batch) => (Ok((batch.bytes.len(), batch.handle.place)), batch.handle),
+        Err(error) => (Err((error.status, error.handle.place)), error.handle),
+    };
+    assert_eq!(handle.types, Types::ALL);
     (out, served)
 }
 
@@ -327,7 +332,8 @@ fn kinds_and_directions() {
     ] {
         let place = Place::Boundary(168);
         let mut out = [0xAA; 200];
-        let answer = Handle { place }.read(Unicode, &log, kind, direction, 104, &mut out);
+        let types = Types::ALL;
+        let answer = Handle { place, types }.read(Unicode, &log, kind, direction, 104, &mut out);
         let batch = answer.unwrap();
         assert_eq!(batch.handle.place, Place::Boundary(boundary));
         let bytes = batch.bytes.len();
@@ -356,6 +362,61 @@ fn statuses() {
         assert_eq!(out, [0xAA; 200]);
         assert_eq!(status.code(), code);
     }
+}
+
+/// The samples of Rules 11.80 to 11.84.
+#[test]
+fn some_types() {
+    use Direction::Forwards;
+    use ReadKind::{Seek, Sequential};
+    let four = put(&S, 24, 4);
+    let log = [&four[..], &S, &four].concat();
+    let mut out = [0; 192];
+    let handle = Handle::fresh(Types::INFORMATION);
+    let batch = handle.read(Unicode, &log, Sequential, Forwards, 128, &mut out);
+    let batch = batch.unwrap();
+    assert_eq!(batch.bytes, [&four[..], &four].concat());
+    let end = Handle {
+        place: Place::Boundary(192),
+        types: Types::INFORMATION,
+    };
+    assert_eq!(batch.handle, end);
+
+    let at_last = || Handle {
+        place: Place::Boundary(128),
+        types: Types::SUCCESS,
+    };
+    let handle = Handle::fresh(Types::SUCCESS);
+    let small = handle.read(Unicode, &log, Sequential, Forwards, 63, &mut out);
+    let small = small.unwrap_err();
+    assert_eq!(small.status, Status::BufferTooSmall { needed: 64 });
+    assert_eq!(small.handle, Handle::fresh(Types::SUCCESS));
+    let batch = small
+        .handle
+        .read(Unicode, &log, Sequential, Forwards, 128, &mut out);
+    let batch = batch.unwrap();
+    assert_eq!((batch.bytes, &batch.handle), (&S[..], &at_last()));
+    let none = batch
+        .handle
+        .read(Unicode, &log, Sequential, Forwards, 128, &mut out);
+    let none = none.unwrap_err();
+    assert_eq!((none.status, none.handle), (Status::EndOfFile, at_last()));
+
+    // The record found is not wanted.
+    let handle = Handle::fresh(Types::SUCCESS);
+    let sought = handle.read(Unicode, &log, Seek(7), Forwards, 64, &mut out);
+    let sought = sought.unwrap();
+    assert_eq!((sought.bytes, sought.handle), (&S[..], at_last()));
+
+    let wrong = || Handle::fresh(Types::from_bits(64));
+    for kind in [Sequential, Seek(7)] {
+        let refused = wrong().read(Unicode, &log, kind, Forwards, 64, &mut out);
+        let refused = refused.unwrap_err();
+        assert_eq!(refused.status, Status::InvalidParameter);
+        assert_eq!(refused.handle, wrong());
+    }
+    let counts = [0x3F, 0x21, 0x40, u32::MAX].map(|bits| Types::from_bits(bits).count());
+    assert_eq!(counts, [6, 2, 0, 6]);
 }
 
 // The bench samples that are not proved.
@@ -539,6 +600,7 @@ fn longest_record_of_every_part() {
     ] {
         let handle = || Handle {
             place: Place::Boundary(from),
+            types: Types::ALL,
         };
         let kind = ReadKind::Sequential;
         let mut out = vec![0xAA; MAX_LENGTH + 1];

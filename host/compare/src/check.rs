@@ -9,8 +9,9 @@ use std::path::Path;
 use std::process::{Command, Output, Stdio};
 
 use eventlog::{Direction, ReadKind, Refusal, Refused, Run, Text};
-use plain::Edition;
+use plain::{status, Edition, Types};
 
+use crate::ahead::{ahead, read_all, Ahead};
 use crate::make::{begins_with_zero, get, Made, MAX_LENGTH, TOO_LONG};
 
 /// The calls that refuse, and the listing program.
@@ -175,6 +176,38 @@ pub const STATUSES: [u32; 6] = [
 /// The four good flags; all others count as one kind more.
 pub const FLAGS: [u32; 4] = [5, 9, 6, 10];
 
+/// What a read does with records that are not wanted.
+#[derive(Clone, Copy, Debug, PartialEq, Eq)]
+pub enum Skip {
+    /// They are skipped before the first one copied,
+    Before,
+    /// between two that are copied,
+    Between,
+    /// and after the last.
+    After,
+    /// One that is skipped would not have fitted, and one after it is copied.
+    Long,
+    /// None that is wanted is left after them.
+    End,
+    /// One that is refused comes after them.
+    Refused,
+    /// The wanted one after them is too long.
+    Small,
+}
+
+pub const SKIPS: [Skip; 7] = [
+    Skip::Before,
+    Skip::Between,
+    Skip::After,
+    Skip::Long,
+    Skip::End,
+    Skip::Refused,
+    Skip::Small,
+];
+
+/// Every set of types; all that have another bit count as one more.
+pub const SETS: usize = 64;
+
 /// What was compared, and with which answers.
 #[derive(Clone, Debug)]
 pub struct Tally {
@@ -185,6 +218,12 @@ pub struct Tally {
     pub refusals: [[u64; 18]; CALLS],
     /// By kind of flags and status.
     pub statuses: [[u64; 6]; 5],
+    /// By kind of good flags and what was skipped.
+    pub skips: [[u64; SKIPS.len()]; 4],
+    /// Reads by their set, those with wrong flags or sizes left out.
+    pub sets: [u64; SETS + 1],
+    /// Reads for all types that answer as without sets.
+    pub without_sets: u64,
     pub cases: [u64; CASES.len()],
 }
 
@@ -195,6 +234,9 @@ impl Default for Tally {
             calls: 0,
             refusals: [[0; 18]; CALLS],
             statuses: [[0; 6]; 5],
+            skips: [[0; SKIPS.len()]; 4],
+            sets: [0; SETS + 1],
+            without_sets: 0,
             cases: [0; CASES.len()],
         }
     }
@@ -204,7 +246,15 @@ impl Tally {
     pub fn add(&mut self, other: &Tally) {
         self.buffers += other.buffers;
         self.calls += other.calls;
+        self.without_sets += other.without_sets;
         for (sum, n) in self.cases.iter_mut().zip(other.cases) {
+            *sum += n;
+        }
+        for (sum, n) in self.sets.iter_mut().zip(other.sets) {
+            *sum += n;
+        }
+        let more = other.skips.as_flattened();
+        for (sum, n) in self.skips.as_flattened_mut().iter_mut().zip(more) {
             *sum += n;
         }
         let more = other.refusals.as_flattened();
@@ -321,20 +371,23 @@ pub struct Handles {
 }
 
 impl Handles {
-    pub fn fresh() -> Self {
+    /// Fresh ones for the set with these bits.
+    pub fn fresh(types: u32) -> Self {
         Handles {
-            proved: eventlog::Handle::fresh(),
-            plain: plain::Handle::fresh(),
+            proved: eventlog::Handle::fresh(eventlog::Types::from_bits(types)),
+            plain: plain::Handle::fresh(Types(types)),
         }
     }
 
-    pub fn boundary(at: usize) -> Self {
+    pub fn boundary(at: usize, types: u32) -> Self {
         Handles {
             proved: eventlog::Handle {
                 place: eventlog::Place::Boundary(at),
+                types: eventlog::Types::from_bits(types),
             },
             plain: plain::Handle {
                 place: plain::Place::Boundary(at),
+                types: Types(types),
             },
         }
     }
@@ -361,7 +414,10 @@ fn read_proved(answer: Result<eventlog::Batch, eventlog::ReadError>) -> plain::A
         status,
         read,
         needed,
-        handle: plain::Handle { place },
+        handle: plain::Handle {
+            place,
+            types: Types(handle.types.bits()),
+        },
     }
 }
 
@@ -1008,11 +1064,95 @@ impl Check {
             Some(status) => self.tally.statuses[kind][status] += 1,
             None => self.differ(&call(), &[log], &seen, &"no such status"),
         }
+        self.sets_of(given, log, request, &plain);
+        let types = plain.handle.types.0;
         match plain.handle.place {
-            plain::Place::Fresh => Handles::fresh(),
-            plain::Place::Boundary(at) => Handles::boundary(at),
+            plain::Place::Fresh => Handles::fresh(types),
+            plain::Place::Boundary(at) => Handles::boundary(at, types),
         }
     }
+
+    /// What the handle's set made of a read: with all six types it answers as
+    /// without sets, else what was skipped is counted.
+    fn sets_of(
+        &mut self,
+        given: plain::Handle,
+        log: &[u8],
+        request: Request,
+        answer: &plain::Answer,
+    ) {
+        let plain::Handle { place, types } = given;
+        if types == Types::ALL {
+            let mut out = vec![self.fill; request.out];
+            let all = read_all(self.edition, place, log, request, &mut out);
+            if all != *answer || out[..all.read] != self.out[1][..all.read] {
+                let call = format!("read without sets with {given:?}, {request:?}");
+                self.differ(&call, &[log], &answer, &all);
+            }
+            self.tally.without_sets += 1;
+        }
+        let Request {
+            flags,
+            number,
+            size,
+            out,
+        } = request;
+        let Some(kind) = FLAGS.iter().position(|f| *f == flags) else {
+            return;
+        };
+        if size > plain::MAX_READ.min(out) {
+            return;
+        }
+        self.tally.sets[(types.0 as usize).min(SETS)] += 1;
+        let lost = matches!(place, plain::Place::Boundary(at) if at > log.len());
+        if types == Types::ALL || !types.is_valid() || lost {
+            return;
+        }
+        if let Ok(ahead) = ahead(self.edition, place, log, flags, number) {
+            for skip in skips(&ahead, types, size, answer) {
+                self.tally.skips[kind][skip as usize] += 1;
+            }
+        }
+    }
+}
+
+/// What a read skipped of what was ahead of it.
+fn skips(ahead: &Ahead, types: Types, size: usize, answer: &plain::Answer) -> Vec<Skip> {
+    let mut met = Vec::new();
+    let mut read = 0;
+    let mut skipped = 0;
+    let mut long = false;
+    for record in &ahead.records {
+        if !types.contains(record.event_type) {
+            skipped += 1;
+            long |= record.length > size - read;
+            continue;
+        }
+        if read == answer.read {
+            break;
+        }
+        if skipped > 0 {
+            met.push(if read == 0 {
+                Skip::Before
+            } else {
+                Skip::Between
+            });
+        }
+        if long {
+            met.push(Skip::Long);
+        }
+        read += record.length;
+        (skipped, long) = (0, false);
+    }
+    if skipped > 0 {
+        met.push(match answer.status {
+            status::SUCCESS => Skip::After,
+            status::END_OF_FILE => Skip::End,
+            status::EVENTLOG_FILE_CORRUPT => Skip::Refused,
+            _ => Skip::Small,
+        });
+    }
+    met
 }
 
 fn parts_of(event: &Made) -> [&[u8]; 5] {

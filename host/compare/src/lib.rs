@@ -4,6 +4,7 @@
 //! Work is cut into rounds of a family of inputs in an edition; each has its own
 //! seed, so a difference names the round that shows it again.
 
+pub mod ahead;
 pub mod card;
 pub mod check;
 pub mod make;
@@ -12,14 +13,14 @@ pub mod windows_1252;
 
 use check::{Check, Handles, Request, Tally};
 use make::{Made, Size, FIELDS};
-use plain::Edition;
+use plain::{Edition, Types};
 use random::Random;
 
 /// A kind of inputs: its name and one round of it.
 pub type Family = (&'static str, fn(&mut Random, &mut Check));
 
 /// All kinds of inputs, those with short ones first.
-pub const FAMILIES: [Family; 13] = [
+pub const FAMILIES: [Family; 14] = [
     ("fields", fields),
     ("bytes", bytes),
     ("cuts", cuts),
@@ -33,7 +34,11 @@ pub const FAMILIES: [Family; 13] = [
     ("runs", runs),
     ("lengths", lengths),
     ("editions", editions),
+    ("types", types),
 ];
+
+/// The set of all types.
+const ALL: u32 = Types::ALL.0;
 
 /// One round of a family in an edition.
 pub fn round(edition: Edition, family: usize, round: u64) -> Tally {
@@ -211,7 +216,7 @@ fn editions(rng: &mut Random, check: &mut Check) {
         places.extend(last.iter().map(|at| len + at));
         log = [before, log, behind].concat();
         whole_log(rng, check, &log, &places);
-        let mut handles = Handles::fresh();
+        let mut handles = Handles::fresh(any_types(rng));
         for _ in 0..8 {
             let flags = rng.pick(&check::FLAGS);
             let request = any_request(rng, &log, &places, flags);
@@ -225,6 +230,94 @@ fn editions(rng: &mut Random, check: &mut Check) {
         check.write(&event, out);
         let used = rng.pick(&places);
         check.append(&mut log, used, &event);
+    }
+}
+
+/// Logs in which few records are wanted and others are long or damaged: from every
+/// place between records, by seeks for each of them, and for every set.
+fn types(rng: &mut Random, check: &mut Check) {
+    for i in 0..4 {
+        let wanted = rng.pick(&[1, 2, 4, 8, 16, 32, 33, 20]);
+        let (log, places) = sparse_log(rng, check.edition, wanted);
+        check.walks(&log);
+        for &at in &places {
+            let number = match at + 12 <= log.len() {
+                true => make::get(&log, at + 8, 4),
+                false => 0,
+            };
+            for flags in check::FLAGS {
+                let span = rng.pick(&places);
+                let size = any_size(rng, &log, span).min(plain::MAX_READ);
+                for types in [wanted, wanted | rng.below(check::SETS) as u32] {
+                    let request = Request {
+                        flags,
+                        number,
+                        size,
+                        out: size,
+                    };
+                    check.read(Handles::boundary(at, types), &log, request);
+                }
+            }
+        }
+        let sets = match i {
+            0 => 0..check::SETS as u32 + 2,
+            _ => wanted..wanted + 1,
+        };
+        for types in sets {
+            for flags in [5, 9] {
+                whole_series(rng, check, &log, types, flags);
+            }
+        }
+    }
+}
+
+/// A log with few records of the wanted types, in half of the cases with one that
+/// is damaged; and the places between them.
+fn sparse_log(rng: &mut Random, edition: Edition, wanted: u32) -> (Vec<u8>, Vec<usize>) {
+    let (mut log, mut places) = (Vec::new(), vec![0]);
+    for _ in 0..rng.range(1, 4) {
+        let size = rng.pick(&[Size::Small, Size::Small, Size::Medium]);
+        let count = rng.below(4);
+        let (more, ends) = make::log(edition, rng, count, size, false);
+        places.extend(ends[1..].iter().map(|end| log.len() + end));
+        log.extend(more);
+    }
+    let starts = &places[..places.len() - 1];
+    for start in starts {
+        let held = rng.once_in(4);
+        let types = make::TYPES.into_iter();
+        let types = types.filter(|t| Types(wanted).contains(*t) == held);
+        let event_type = rng.pick(&types.collect::<Vec<_>>());
+        make::put(&mut log, start + 24, 2, event_type.into());
+    }
+    if !starts.is_empty() && rng.once_in(2) {
+        let start = rng.pick(starts);
+        let length = make::get(&log, start, 4);
+        let length2 = (length as usize - 4, 4);
+        let (at, size) = rng.pick(&[&FIELDS[..], &[length2]].concat());
+        let old = make::get(&log, start + at, size);
+        let value = rng.pick(&make::boundary_values(old, length));
+        make::put(&mut log, start + at, size, value);
+    }
+    (log, places)
+}
+
+/// Reads one way from a fresh handle on, until one that asks for much is refused.
+fn whole_series(rng: &mut Random, check: &mut Check, log: &[u8], types: u32, flags: u32) {
+    let mut handles = Handles::fresh(types);
+    for _ in 0..40 {
+        let size = rng.pick(&[64, 200, 400, 1000, log.len().min(plain::MAX_READ)]);
+        let request = Request {
+            flags,
+            number: 0,
+            size,
+            out: size,
+        };
+        let before = handles.plain;
+        handles = check.read(handles, log, request);
+        if handles.plain == before && size >= log.len().min(1000) {
+            break;
+        }
     }
 }
 
@@ -329,7 +422,8 @@ fn between(rng: &mut Random, check: &mut Check, made: &Made) {
                 size,
                 out: size,
             };
-            check.read(Handles::boundary(at), &log, request);
+            check.read(Handles::boundary(at, ALL), &log, request);
+            check.read(Handles::boundary(at, any_types(rng)), &log, request);
         }
     }
     let mut log = [before, rng.bytes(record.len())].concat();
@@ -478,7 +572,7 @@ fn reads(rng: &mut Random, check: &mut Check) {
         };
         let (log, places) = make::log(check.edition, rng, count, size, broken);
         check.walks(&log);
-        let mut handles = Handles::fresh();
+        let mut handles = Handles::fresh(any_types(rng));
         let mut flags = rng.pick(&check::FLAGS);
         let list = match size {
             Size::Large => 12,
@@ -517,9 +611,10 @@ fn long_reads(rng: &mut Random, check: &mut Check) {
     for size in [most, most - 1, block.len(), block.len() - 1, most + 1] {
         let out = size + rng.below(3);
         for (handles, flags) in [
-            (Handles::boundary(start), 5),
-            (Handles::boundary(end), 9),
-            (Handles::fresh(), rng.pick(&check::FLAGS)),
+            (Handles::boundary(start, ALL), 5),
+            (Handles::boundary(end, ALL), 9),
+            (Handles::fresh(ALL), rng.pick(&check::FLAGS)),
+            (Handles::fresh(any_types(rng)), rng.pick(&check::FLAGS)),
         ] {
             let request = Request {
                 flags,
@@ -596,12 +691,26 @@ fn damage_record(edition: Edition, rng: &mut Random, batch: &mut Vec<u8>) {
     make::put(batch, start + at, size, value);
 }
 
+/// A set of types: mostly all of them, sometimes with another bit.
+fn any_types(rng: &mut Random) -> u32 {
+    match rng.below(16) {
+        0..10 => ALL,
+        10..14 => rng.below(check::SETS) as u32,
+        14 => 1 << rng.below(32),
+        _ => rng.below(check::SETS) as u32 | 1 << rng.range(6, 31),
+    }
+}
+
 fn any_handles(rng: &mut Random, log: &[u8], places: &[usize]) -> Handles {
+    let types = any_types(rng);
     match rng.below(4) {
-        0 => Handles::fresh(),
-        1 => Handles::boundary(rng.below(log.len() + 3)),
-        2 => Handles::boundary(rng.pick(places)),
-        _ => Handles::boundary(rng.pick(&[log.len(), log.len() + 1, usize::MAX, 1 << 32])),
+        0 => Handles::fresh(types),
+        1 => Handles::boundary(rng.below(log.len() + 3), types),
+        2 => Handles::boundary(rng.pick(places), types),
+        _ => {
+            let far = rng.pick(&[log.len(), log.len() + 1, usize::MAX, 1 << 32]);
+            Handles::boundary(far, types)
+        }
     }
 }
 

@@ -92,7 +92,7 @@ pub const FIELDS: [(usize, usize); 16] = [
     (52, 4),
 ];
 
-const TYPES: [u16; 6] = [0, 1, 2, 4, 8, 16];
+pub const TYPES: [u16; 6] = [0, 1, 2, 4, 8, 16];
 
 fn aligned(place: usize) -> usize {
     place.next_multiple_of(4)

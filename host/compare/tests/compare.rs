@@ -9,7 +9,7 @@ use std::sync::Mutex;
 use std::thread;
 use std::time::Instant;
 
-use compare::check::{Call, Case, Tally, CASES, FLAGS, STATUSES};
+use compare::check::{Call, Case, Skip, Tally, CASES, FLAGS, SETS, SKIPS, STATUSES};
 use compare::{round, FAMILIES};
 use plain::Edition;
 
@@ -157,12 +157,8 @@ fn reached(edition: Edition, total: &Tally) {
     }
     for (kind, counts) in total.statuses.iter().enumerate() {
         for (status, count) in STATUSES.iter().zip(counts) {
-            // Wrong flags have one answer; a record that is found is never the end.
-            let possible = match kind {
-                4 => *status == 0xC000_000D,
-                2 | 3 => *status != 0xC000_0011,
-                _ => true,
-            };
+            // Wrong flags have one answer.
+            let possible = kind < 4 || *status == 0xC000_000D;
             let flags = FLAGS.get(kind);
             assert_eq!(
                 *count > 0,
@@ -171,6 +167,18 @@ fn reached(edition: Edition, total: &Tally) {
             );
         }
     }
+    for (flags, counts) in FLAGS.iter().zip(total.skips) {
+        for (skip, count) in SKIPS.iter().zip(counts) {
+            // What stands before a record that a seek finds is good.
+            let possible = *flags != 10 || *skip != Skip::Refused;
+            assert_eq!(count > 0, possible, "{edition:?} flags {flags} {skip:?}");
+        }
+    }
+    for (set, count) in total.sets.iter().enumerate() {
+        // The last stands for all sets with another bit.
+        assert!(*count > 0, "{edition:?} set {set} of {SETS}");
+    }
+    assert!(total.without_sets >= total.sets[SETS - 1], "{edition:?}");
     for case in CASES {
         let met = total.cases[case as usize] > 0;
         let possible = program || !PROGRAM.contains(&case);

@@ -104,6 +104,7 @@ struct Appended {
 #[derive(Clone, Copy, Debug, PartialEq, Eq)]
 struct Handle {
     kind: u32,
+    types: u32,
     boundary: usize,
 }
 
@@ -281,17 +282,29 @@ fn read_whole(number: u32, edition: Edition, s: &[u8], boundary: usize) {
             assert_eq!(&out[..text.len()], text.as_bytes());
         }
     }
-    for (flags, record, kind) in [
-        (5, 0, 1),
-        (9, 0, 1),
-        (5, 0, 0),
-        (9, 0, 0),
-        (6, 3, 0),
-        (10, 3, 1),
+    for (flags, record, kind, types) in [
+        (5, 0, 1, 63),
+        (9, 0, 1, 63),
+        (5, 0, 0, 63),
+        (9, 0, 0, 63),
+        (6, 3, 0, 63),
+        (10, 3, 1, 63),
+        // Some types, none, and a set with another bit, of handles of any kind.
+        (5, 0, 0, 21),
+        (9, 0, u32::MAX, 42),
+        (6, 3, 7, 48),
+        (10, 3, 0, 7),
+        (5, 0, 2, 0),
+        (9, 0, 2, 64),
+        (10, 3, 0, u32::MAX),
     ] {
         let size = len / 2 + 70;
         let [mut proved, mut ordinary] = [(); 2].map(|()| vec![LENT; size]);
-        let handle = Handle { kind, boundary };
+        let handle = Handle {
+            kind,
+            types,
+            boundary,
+        };
         let place = match kind {
             0 => plain::Place::Fresh,
             _ => plain::Place::Boundary(boundary),
@@ -310,14 +323,22 @@ fn read_whole(number: u32, edition: Edition, s: &[u8], boundary: usize) {
                 size,
             )
         };
-        let expected = plain::Handle { place }.read(edition, s, flags, record, size, &mut ordinary);
+        let given = plain::Handle {
+            place,
+            types: plain::Types(types),
+        };
+        let expected = given.read(edition, s, flags, record, size, &mut ordinary);
         let (status, read, needed) = (expected.status, expected.read, expected.needed);
         assert_eq!(
             (answer.status, answer.read, answer.needed),
             (status, read, needed)
         );
         let next = match expected.handle.place {
-            plain::Place::Boundary(boundary) if status == 0 => Handle { kind: 1, boundary },
+            plain::Place::Boundary(boundary) if status == 0 => Handle {
+                kind: 1,
+                types,
+                boundary,
+            },
             _ => handle,
         };
         assert_eq!(answer.handle, next);

@@ -22,6 +22,7 @@ mod search;
 #[cfg(test)]
 mod search_tests;
 mod serve;
+mod types;
 mod walk;
 pub mod windows_1252;
 mod write;
@@ -38,5 +39,6 @@ pub use record::{
 };
 pub use search::after_zero_units;
 pub use serve::{flags, status, Answer, Handle, Place, MAX_READ};
+pub use types::Types;
 pub use walk::{walk, walk_back, Walked};
 pub use write::{append, write, Event};

@@ -9,6 +9,7 @@ use plain::*;
 fn boundary(at: usize) -> Handle {
     Handle {
         place: Place::Boundary(at),
+        types: Types::ALL,
     }
 }
 
@@ -104,9 +105,9 @@ fn judged_in_the_other_edition() {
         let mut out = [0; 200];
         let answer = boundary(64).read(edition, &log, 5, 0, 200, &mut out);
         assert_eq!(answer.status, 0xC000_018E);
-        let answer = Handle::fresh().read(edition, &log, 9, 0, 200, &mut out);
+        let answer = Handle::fresh(Types::ALL).read(edition, &log, 9, 0, 200, &mut out);
         assert_eq!(answer.status, 0xC000_018E);
-        let answer = Handle::fresh().read(edition, &log, 6, 8, 200, &mut out);
+        let answer = Handle::fresh(Types::ALL).read(edition, &log, 6, 8, 200, &mut out);
         assert_eq!(answer.status, 0xC000_018E);
     }
     assert_eq!(
@@ -134,7 +135,7 @@ fn served_both_ways() {
         handle,
     };
     let mut out = [0xAA; 200];
-    let first = Handle::fresh().read(Ansi, &log, 5, 0, 64, &mut out);
+    let first = Handle::fresh(Types::ALL).read(Ansi, &log, 5, 0, 64, &mut out);
     assert_eq!(first, answer(0, 64, 0, boundary(64)));
     assert_eq!((&out[..64], out[64]), (&S[..], 0xAA));
     let small = first.handle.read(Ansi, &log, 5, 0, 91, &mut out);
@@ -142,12 +143,12 @@ fn served_both_ways() {
     let second = first.handle.read(Ansi, &log, 5, 0, 92, &mut out);
     assert_eq!(second, answer(0, 92, 0, boundary(156)));
     assert_eq!(out[..92], ANSI_T);
-    let back = Handle::fresh().read(Ansi, &log, 9, 0, 156, &mut out);
+    let back = Handle::fresh(Types::ALL).read(Ansi, &log, 9, 0, 156, &mut out);
     assert_eq!(back, answer(0, 156, 0, boundary(0)));
     assert_eq!(out[..156], [&ANSI_T[..], &S].concat());
     let end = back.handle.read(Ansi, &log, 9, 0, 156, &mut out);
     assert_eq!(end, answer(0xC000_0011, 0, 0, boundary(0)));
-    let sought = Handle::fresh().read(Ansi, &log, 6, 8, 156, &mut out);
+    let sought = Handle::fresh(Types::ALL).read(Ansi, &log, 6, 8, 156, &mut out);
     assert_eq!(sought, answer(0, 92, 0, boundary(156)));
 }
 

@@ -130,6 +130,7 @@ fn longest_record_of_every_part() {
     for (flags, at) in [(5, 64), (9, 64 + 262_140)] {
         let handle = Handle {
             place: Place::Boundary(at),
+            types: Types::ALL,
         };
         let answer = handle.read(Unicode, &log, flags, 0, 262_139, &mut out);
         assert_eq!((answer.status, answer.needed), (0xC000_0023, 262_140));
@@ -552,28 +553,29 @@ fn read_sizes_and_flags() {
     let log = s_t();
     let mut out = vec![0xAA; 524_288];
     for flags in [5, 9] {
-        let answer = Handle::fresh().read(Unicode, &log, flags, 0, 524_287, &mut out);
+        let answer = Handle::fresh(Types::ALL).read(Unicode, &log, flags, 0, 524_287, &mut out);
         assert_eq!((answer.status, answer.read), (0, 168));
         out.fill(0xAA);
-        let answer = Handle::fresh().read(Unicode, &log, flags, 0, 524_288, &mut out);
+        let answer = Handle::fresh(Types::ALL).read(Unicode, &log, flags, 0, 524_288, &mut out);
         assert_eq!(
             (answer.status, answer.read, answer.needed),
             (0xC000_000D, 0, 0)
         );
-        let answer = Handle::fresh().read(Unicode, &log, flags, 0, 201, &mut out[..200]);
+        let answer = Handle::fresh(Types::ALL).read(Unicode, &log, flags, 0, 201, &mut out[..200]);
         assert_eq!(answer.status, 0xC000_000D);
-        assert_eq!(answer.handle, Handle::fresh());
+        assert_eq!(answer.handle, Handle::fresh(Types::ALL));
         assert!(out.iter().all(|b| *b == 0xAA));
     }
     for bits in (0..64).chain([1 << 31 | 5, 0x100 | 9, u32::MAX]) {
         let right = [5, 6, 9, 10].contains(&bits);
-        let answer = Handle::fresh().read(Unicode, &log, bits, 7, 200, &mut out);
+        let answer = Handle::fresh(Types::ALL).read(Unicode, &log, bits, 7, 200, &mut out);
         assert_eq!(answer.status == 0, right, "flags {bits}");
         assert!(right || answer.status == 0xC000_000D);
     }
     // Wrong flags and sizes come before a wrong handle.
     let past = Handle {
         place: Place::Boundary(169),
+        types: Types::ALL,
     };
     assert_eq!(
         past.read(Unicode, &log, 4, 0, 0, &mut []).status,

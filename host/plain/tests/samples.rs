@@ -12,6 +12,7 @@ const BACKWARDS: u32 = 9;
 fn boundary(at: usize) -> Handle {
     Handle {
         place: Place::Boundary(at),
+        types: Types::ALL,
     }
 }
 
@@ -281,7 +282,7 @@ fn empty_buffer() {
 fn log_forwards() {
     let log = s_t();
     let mut out = [0xAA; 200];
-    let first = Handle::fresh().read(Unicode, &log, FORWARDS, 0, 64, &mut out);
+    let first = Handle::fresh(Types::ALL).read(Unicode, &log, FORWARDS, 0, 64, &mut out);
     assert_eq!(
         first,
         Answer {
@@ -312,7 +313,7 @@ fn log_forwards() {
 fn log_backwards() {
     let log = s_t();
     let mut out = [0xAA; 200];
-    let first = Handle::fresh().read(Unicode, &log, BACKWARDS, 0, 168, &mut out);
+    let first = Handle::fresh(Types::ALL).read(Unicode, &log, BACKWARDS, 0, 168, &mut out);
     assert_eq!(
         first,
         Answer {
@@ -340,7 +341,7 @@ fn log_backwards() {
     );
 
     let mut out = [0xAA; 200];
-    let only = Handle::fresh().read(Unicode, &log, BACKWARDS, 0, 167, &mut out);
+    let only = Handle::fresh(Types::ALL).read(Unicode, &log, BACKWARDS, 0, 167, &mut out);
     assert_eq!(
         (only.status, only.read, only.handle),
         (0, 104, boundary(64))
@@ -353,14 +354,14 @@ fn log_backwards() {
 fn seek_nine() {
     for flags in [6, 10] {
         let mut out = [0xAA; 200];
-        let answer = Handle::fresh().read(Unicode, &s_t(), flags, 9, 200, &mut out);
+        let answer = Handle::fresh(Types::ALL).read(Unicode, &s_t(), flags, 9, 200, &mut out);
         assert_eq!(
             answer,
             Answer {
                 status: 0xC000_000D,
                 read: 0,
                 needed: 0,
-                handle: Handle::fresh()
+                handle: Handle::fresh(Types::ALL)
             }
         );
         assert_eq!(out, [0xAA; 200]);
@@ -371,12 +372,12 @@ fn seek_nine() {
 fn size_zero() {
     let log = s_t();
     for (flags, needed) in [(FORWARDS, 64), (BACKWARDS, 104)] {
-        let answer = Handle::fresh().read(Unicode, &log, flags, 0, 0, &mut []);
+        let answer = Handle::fresh(Types::ALL).read(Unicode, &log, flags, 0, 0, &mut []);
         assert_eq!((answer.status, answer.needed), (0xC000_0023, needed));
-        assert_eq!(answer.handle, Handle::fresh());
-        let answer = Handle::fresh().read(Unicode, &[], flags, 0, 0, &mut []);
+        assert_eq!(answer.handle, Handle::fresh(Types::ALL));
+        let answer = Handle::fresh(Types::ALL).read(Unicode, &[], flags, 0, 0, &mut []);
         assert_eq!((answer.status, answer.needed), (0xC000_0011, 0));
-        assert_eq!(answer.handle, Handle::fresh());
+        assert_eq!(answer.handle, Handle::fresh(Types::ALL));
     }
 }
 

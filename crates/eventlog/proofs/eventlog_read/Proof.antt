@@ -19,7 +19,7 @@ returns c =
     ap (λ (h : ReadHandle). readOutcome (record { status = 0; read = r .read .result .read; needed = r .read .result .needed; handle = h }) out) (c .read-handle .ensures)
     ∙ read-done (a .h) (r .read .result) out (c .before .before .if1 .taken)
     ∙ ap (answered (a .h)) (r .read .ensures)
-    ∙ ap (λ (p : Place). answered (a .h) (serving (width (r .before .before .edition-of .result)) (a .log .now) (record { place = p }) (a .flags) (a .number) (a .size) (a .out .now))) (r .before .before .before .place-of .ensures)
+    ∙ ap (λ (p : Place). answered (a .h) (serving (width (r .before .before .edition-of .result)) (a .log .now) (record { place = p; types = a .h .types }) (a .flags) (a .number) (a .size) (a .out .now))) (r .before .before .before .place-of .ensures)
     ∙ ap (λ (e : Edition). answered (a .h) (serving (width e) (a .log .now) (handleOf (a .h)) (a .flags) (a .number) (a .size) (a .out .now))) (r .before .before .edition-of .ensures)
 
 returns-2 : tie.Need-returns-2
@@ -28,7 +28,7 @@ returns-2 c =
     let a = r .before .before .before .before .before .before .args in
     read-refused (a .h) (r .read .result) (r .read .last .1 .1 .1 .1 .1 .1 .0) (c .if1 .left)
     ∙ ap (answered (a .h)) (r .read .ensures)
-    ∙ ap (λ (p : Place). answered (a .h) (serving (width (r .before .before .edition-of .result)) (a .log .now) (record { place = p }) (a .flags) (a .number) (a .size) (a .out .now))) (r .before .before .before .place-of .ensures)
+    ∙ ap (λ (p : Place). answered (a .h) (serving (width (r .before .before .edition-of .result)) (a .log .now) (record { place = p; types = a .h .types }) (a .flags) (a .number) (a .size) (a .out .now))) (r .before .before .before .place-of .ensures)
     ∙ ap (λ (e : Edition). answered (a .h) (serving (width e) (a .log .now) (handleOf (a .h)) (a .flags) (a .number) (a .size) (a .out .now))) (r .before .before .edition-of .ensures)
 
 pub eventlog-read-spec : {M : Type 1} → statement M

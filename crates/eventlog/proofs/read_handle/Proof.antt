@@ -8,4 +8,5 @@ use Rattle.eventlog.proofs.read_handle.Tie as tie
 pub read-handle-spec : {M : Type 1} → statement M
 read-handle-spec =
     tie.close
-    (tie.spec (λ c. search needs) (λ c. search needs) (λ c. ap readHandle (sym (c .enum-told .given .1))) (λ c. ap readHandle (sym (c .before .place .given .1))))
+    (tie.spec (λ c. search needs) (λ c. search needs) (λ c. ap (λ p. readHandle p (c .before .before .args .types)) (sym (c .enum-told .given .1)))
+    (λ c. ap (λ p. readHandle p (c .before .before .before .args .types)) (sym (c .before .place .given .1))))

@@ -1,7 +1,7 @@
--- Reads whose flags, size or handle are wrong, and reads of which all are right.
+-- Reads whose flags, size, set or handle are wrong, and reads of which all are right.
 -- Assumes nothing.
-use mathlib.Core.Path.{_≡_, refl, ap, _∙_}
-use mathlib.Core.Bool.{Bool, true, false, cond, _&&_}
+use mathlib.Core.Path.{_≡_, refl, sym, ap, _∙_}
+use mathlib.Core.Bool.{Bool, true, false, cond, _&&_, false≢true}
 use mathlib.Core.List.{List}
 use Prim.Native.Nat.{ℕ, _+_}
 use native.Mathlib.Omega.{arith}
@@ -11,15 +11,16 @@ use borrow.Author.Tests.{eqb-true, eqb-false, leb-true, leb-false}
 use Rattle.format.specs.declared.Direction.{Direction}
 use Rattle.format.specs.declared.Direction.the-variants.{Forwards, Backwards}
 use Rattle.format.specs.Layout.{maxRead}
+use Rattle.event_types.specs.Types.{isTypeSet}
 use Rattle.serve.specs.declared.Place.{Place}
 use Rattle.serve.specs.declared.Place.the-variants.{Fresh, Boundary}
 use Rattle.serve.specs.declared.Handle.{Handle}
 use Rattle.serve.specs.Answers.{Served}
 use Rattle.serve.specs.Serving.{invalidParameter, invalidHandle, request, sizeOk, inLog, refused, allowed, asked, serving}
 use Rattle.serve.specs.Laws.{request-wrong}
-use Rattle.reads.specs.Model.{Read, Wrong, sequentialFlags, seekFlags, RightSize, Inside, Asks}
+use Rattle.reads.specs.Model.{Read, Wrong, sequentialFlags, seekFlags, RightSize, RightSet, Inside, Asks}
 use Rattle.reads.specs.Series.{call}
-use Rattle.reads.specs.Laws.Requests.{request-sequential, request-seek, size-allowed}
+use Rattle.reads.specs.Laws.Requests.{request-sequential, request-seek, placed, typed, size-allowed, set-allowed}
 
 -- ---- each is right or wrong
 
@@ -52,6 +53,13 @@ by-size {X} q f g = go (leb (q .size) maxRead) refl (leb (q .size) (length (q .o
         (ap (λ t. t && leb (q .size) (length (q .output))) ea ∙ eb)
     go true ea true eb =
         g (record { limit = leb-true (q .size) maxRead ea; room = leb-true (q .size) (length (q .output)) eb })
+
+by-set : {X : Type 0} (h : Handle) → ((RightSet h → ⊥) → isTypeSet (h .types) ≡ false → X) → (RightSet h → X) → X
+by-set {X} h f g = go (isTypeSet (h .types)) refl
+  where
+    go : (b : Bool) → isTypeSet (h .types) ≡ b → X
+    go true e = g (record { set = e })
+    go false e = f (λ z. false≢true (sym e ∙ z .set)) e
 
 by-place : {X : Type 0} (s : List ℕ) (h : Handle) → ((Inside s h → ⊥) → inLog s (h .place) ≡ false → X) → (Inside s h → X) → X
 by-place {X} s h f g = go (h .place) refl
@@ -87,21 +95,33 @@ module _ (w : ℕ) (s : List ℕ) (h : Handle) (q : Read) where
       by-request wrong-flags
       (λ y e.
       by-size q
-      (λ n z. e ∙ ap (λ b. cond b (cond (inLog s (h .place)) y (refused invalidHandle 0 h (q .output))) (refused invalidParameter 0 h (q .output))) z)
+      (λ n z. e ∙ ap (λ b. cond b (typed s h (q .output) y) (refused invalidParameter 0 h (q .output))) z)
       (λ z. absurd (bad z)))
 
-  pub past-end : (Wrong (q .flags) → ⊥) → RightSize q → (Inside s h → ⊥) → call w s h q ≡ refused 0xC0000008 0 h (q .output)
-  past-end right size bad =
+  pub wrong-set : (RightSet h → ⊥) → call w s h q ≡ refused 0xC000000D 0 h (q .output)
+  wrong-set bad =
+      by-request wrong-flags
+      (λ y e.
+      by-size q (λ n z. wrong-size n)
+      (λ size.
+      by-set h
+      (λ n z. e ∙ size-allowed s h size y ∙ ap (λ b. cond b (placed s h (q .output) y) (refused invalidParameter 0 h (q .output))) z)
+      (λ z. absurd (bad z))))
+
+  pub past-end : (Wrong (q .flags) → ⊥) → RightSize q → RightSet h → (Inside s h → ⊥) → call w s h q ≡ refused 0xC0000008 0 h (q .output)
+  past-end right size set bad =
       by-request (λ x. absurd (right x))
       (λ y e.
       by-place s h
-      (λ n i. e ∙ size-allowed s h size y ∙ ap (λ b. cond b y (refused invalidHandle 0 h (q .output))) i)
+      (λ n i.
+      e ∙ size-allowed s h size y ∙ set-allowed s h (q .output) set y ∙ ap (λ b. cond b y (refused invalidHandle 0 h (q .output))) i)
       (λ i. absurd (bad i)))
 
   -- every read is one of these
-  pub by-arguments : {X : Type 0} → (Wrong (q .flags) → X) → ((RightSize q → ⊥) → X) → ((Wrong (q .flags) → ⊥) → RightSize q → (Inside s h → ⊥) → X)
+  pub by-arguments : {X : Type 0} → (Wrong (q .flags) → X) → ((RightSize q → ⊥) → X) → ((RightSet h → ⊥) → X)
+      → ((Wrong (q .flags) → ⊥) → RightSize q → RightSet h → (Inside s h → ⊥) → X)
       → ((d : Direction) → Asks (sequentialFlags d) s h q → X) → ((d : Direction) → Asks (seekFlags d) s h q → X) → X
-  by-arguments {X} f g k sequential seek =
+  by-arguments {X} f g l k sequential seek =
       by-flags (q .flags) f
       (λ d e. rest (sequentialFlags d) e (not-wrong-sequential d e) (sequential d))
       (λ d e. rest (seekFlags d) e (not-wrong-seek d e) (seek d))
@@ -117,4 +137,6 @@ module _ (w : ℕ) (s : List ℕ) (h : Handle) (q : Read) where
       rest : (flags : ℕ) → q .flags ≡ flags → (Wrong (q .flags) → ⊥) → (Asks flags s h q → X) → X
       rest flags e right ok =
           by-size q (λ n z. g n)
-          (λ z. by-place s h (λ n i. k right z n) (λ i. ok (record { flagged = e; sized = z; inside = i })))
+          (λ z.
+          by-set h (λ n y. l n)
+          (λ y. by-place s h (λ n i. k right z y n) (λ i. ok (record { flagged = e; sized = z; typed = y; inside = i }))))

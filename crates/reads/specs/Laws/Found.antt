@@ -1,6 +1,7 @@
 -- A record that a step finds: where it lies, and that a step back from its other end finds it again.
 -- Assumes nothing.
 use mathlib.Core.Path.{_≡_, refl, sym, ap, _∙_, subst}
+use mathlib.Core.Bool.{true}
 use mathlib.Core.List.{List, _++_, append-assoc}
 use Prim.Native.Nat.{ℕ, _+_, _-_, _≤_}
 use native.Mathlib.Omega.{arith}
@@ -11,6 +12,7 @@ use Rattle.format.specs.declared.Step.the-variants.{Found}
 use Rattle.format.specs.declared.Direction.{Direction}
 use Rattle.format.specs.declared.Direction.the-variants.{Forwards, Backwards}
 use Rattle.format.specs.Bytes.{part}
+use Rattle.format.specs.Good.{isEventType}
 use Rattle.format.specs.Judge.{ahead, startOf, past, BytesAt, shown, stepAt}
 use Rattle.format.specs.Laws.Steps.{Judged, bytes-at-found, found-bytes-at, found-same, met-length}
 use Rattle.format.specs.Laws.Records.{bytes-at-part}
@@ -52,6 +54,7 @@ pub record Lies (d : Direction) (w : ℕ) (s : List ℕ) (p : ℕ) (a : Record) 
   pub inside : p ≤ length s
   pub low : 64 ≤ a .length
   pub fits : a .length ≤ length (ahead d s p)
+  pub kind : isEventType (a .fields .«event_type») ≡ true
   -- its bytes in the log are as many as its Length
   pub bytes : length (part (a .start) (a .length) s) ≡ a .length
   -- it ends where the next step starts
@@ -66,6 +69,7 @@ shown-lies d w s p r j x =
       inside = x .inside;
       low = j .rule .low;
       fits = omega (arith, ap length (x .here), met-length d r (x .rest));
+      kind = j .unrefused .eventType;
       bytes = ap length (bytes-at-part x);
       ends = edges d;
       again = found-again w s p r d j x;

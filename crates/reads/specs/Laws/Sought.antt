@@ -4,10 +4,10 @@ use mathlib.Core.Path.{_≡_, refl, sym, ap, _∙_, subst}
 use mathlib.Core.Bool.{Bool, true, false, cond}
 use mathlib.Core.Logic.{_⊎_, inl, inr, ⊎-elim}
 use mathlib.Core.List.{List, [], _∷_, _++_}
-use Prim.Native.Nat.{ℕ, _≤_, _<_}
+use Prim.Native.Nat.{ℕ}
 use native.Mathlib.Omega.{arith}
-use lib.Dec.{eqb, leb}
-use borrow.Author.Tests.{eq-eqb, ne-eqb, eqb-true, eqb-false, leb-true, leb-false}
+use lib.Dec.{eqb}
+use borrow.Author.Tests.{eq-eqb, ne-eqb, eqb-true, eqb-false}
 use Rattle.format.specs.declared.Record.{Record}
 use Rattle.format.specs.declared.Step.the-variants.{Found}
 use Rattle.format.specs.declared.Direction.{Direction}
@@ -15,40 +15,31 @@ use Rattle.format.specs.declared.Direction.the-variants.{Forwards, Backwards}
 use Rattle.format.specs.Bytes.{All, none, more}
 use Rattle.format.specs.Judge.{past, stepAt}
 use Rattle.format.specs.Walk.{Trace, trace}
-use Rattle.format.specs.Laws.Records.{found-start}
 use Rattle.format.specs.Laws.Walks.{rest-start}
-use Rattle.delivery.specs.Delivering.{traceAhead}
 use Rattle.serve.specs.declared.Handle.{Handle}
 use Rattle.serve.specs.Answers.{Served}
 use Rattle.serve.specs.Serving.{placeOf, sought, refused, started}
 use Rattle.reads.specs.Model.{Read, seekFlags, Asks}
 use Rattle.reads.specs.Series.{call}
-use Rattle.reads.specs.Ahead.{ReadsFrom, FirstHas, NoneHas, SeeksIn}
+use Rattle.reads.specs.Ahead.{Skips, here, skip, NoneLeft, NextRefuses, NextLonger, NextFits, ReadsFrom, FirstHas, NoneHas, SeeksIn}
 use Rattle.reads.specs.Laws.Requests.{seek-started}
 use Rattle.reads.specs.Laws.Seeking.{sought-first, seek-none}
 use Rattle.reads.specs.Laws.Found.{found-lies}
-use Rattle.reads.specs.Laws.Ahead.{first-found, reads-from}
+use Rattle.reads.specs.Laws.Wanted.{walked-on}
+use Rattle.reads.specs.Laws.Ahead.{reads-from, by-status}
 
--- ---- a record of the walk is the next one at its start, and at its end backwards
+-- ---- a record of the walk is met at its start, and at its end backwards
 
-module _ (w : ℕ) (s : List ℕ) where
-  walked-found : (p : ℕ) (older : List Record) (a : Record) (newer : List Record) → traceAhead Forwards w s p .records ≡ older ++ (a ∷ newer)
-      → stepAt Forwards w s (a .start) ≡ Found a
-  walked-found p [] a newer e =
-      let f = first-found Forwards w s p a newer e .0 in
-      ap (stepAt Forwards w s) (found-start w s p a f) ∙ f
-  walked-found p (b ∷ older) a newer e =
-      walked-found (past Forwards p (b .length)) older a newer (first-found Forwards w s p b (older ++ (a ∷ newer)) e .1)
+sought-next : (w : ℕ) (s : List ℕ) (d : Direction) (number : ℕ) (a : Record) → FirstHas w s number a → stepAt d w s (placeOf d a) ≡ Found a
+sought-next w s d number a x = go d
+  where
+    front : stepAt Forwards w s (a .start) ≡ Found a
+    front =
+        walked-on Forwards w s 0 (x .older) a (x .newer) (sym (ap (λ (t : Trace). t .records) (rest-start Forwards w s)) ∙ x .whole) .0
 
-  sought-next : (d : Direction) (number : ℕ) (a : Record) → FirstHas w s number a → stepAt d w s (placeOf d a) ≡ Found a
-  sought-next d number a x = go d
-    where
-      front : stepAt Forwards w s (a .start) ≡ Found a
-      front = walked-found 0 (x .older) a (x .newer) (sym (ap (λ (t : Trace). t .records) (rest-start Forwards w s)) ∙ x .whole)
-
-      go : (d : Direction) → stepAt d w s (placeOf d a) ≡ Found a
-      go Forwards = front
-      go Backwards = found-lies Forwards w s (a .start) a front .again
+    go : (d : Direction) → stepAt d w s (placeOf d a) ≡ Found a
+    go Forwards = front
+    go Backwards = found-lies Forwards w s (a .start) a front .again
 
 -- ---- some record has the number, or none has
 
@@ -106,9 +97,12 @@ module _ (d : Direction) (w : ℕ) (s : List ℕ) (h : Handle) (q : Read) (asks 
   abbrev x : Served
   x = call w s h q
 
-  seek-onward : (a : Record) → FirstHas w s (q .number) a → ReadsFrom d w s (placeOf d a) q x
+  abbrev types : ℕ
+  types = h .types
+
+  seek-onward : (a : Record) → FirstHas w s (q .number) a → ReadsFrom d w s types (placeOf d a) q x
   seek-onward a y =
-      subst (ReadsFrom d w s (placeOf d a) q)
+      subst (ReadsFrom d w s types (placeOf d a) q)
       (sym
       (seek-started d w s h q asks
       ∙ ap (started d w s (q .size) h (q .output))
@@ -142,68 +136,93 @@ module _ (d : Direction) (w : ℕ) (s : List ℕ) (h : Handle) (q : Read) (asks 
           let some-left = eqb-false (trace Forwards w s .refusal .number) 0 e in
           g some-left (ap (λ (y : Served). y .answer .status) (seek-corrupt n some-left))
 
-  -- the record fits or is too long
-  by-size : {X : Type 0} (a : Record) → FirstHas w s (q .number) a → (a .length ≤ q .size → status ≡ 0 → X)
-      → (q .size < a .length → status ≡ 0xC0000023 → X) → X
-  by-size {X} a y f g = go (leb (a .length) (q .size)) refl
-    where
-      there : ReadsFrom d w s (placeOf d a) q x
-      there = seek-onward a y
+  -- the first record with the number, and what holds from it on
+  Found-then : (ℕ → Type 0) → Type 0
+  Found-then P = (a : Record) × FirstHas w s (q .number) a × P (placeOf d a)
 
-      go : (b : Bool) → leb (a .length) (q .size) ≡ b → X
-      go true e =
-          let fit = leb-true (a .length) (q .size) e in
-          f fit (there .success .when (record { next = a; found = sought-next w s d (q .number) a y; fits = fit }))
-      go false e =
-          let long = leb-false (a .length) (q .size) e in
-          g long (there .small .when (record { next = a; found = sought-next w s d (q .number) a y; longer = long }))
+  -- every answer is one of these
+  by-answer : {X : Type 0} → (NoneHas w s (q .number) → trace Forwards w s .refusal .number ≡ 0 → status ≡ 0xC000000D → X)
+      → (NoneHas w s (q .number) → (trace Forwards w s .refusal .number ≡ 0 → ⊥) → status ≡ 0xC000018E → X)
+      → (Found-then (NextRefuses d w s types) → status ≡ 0xC000018E → X)
+      → (Found-then (NoneLeft d w s types) → status ≡ 0xC0000011 → X)
+      → (Found-then (λ p. NextLonger d w s types p (q .size)) → status ≡ 0xC0000023 → X)
+      → (Found-then (λ p. NextFits d w s types p (q .size)) → status ≡ 0 → X)
+      → X
+  unfolding Found-then
+  by-answer absent corrupt refuses ended small success =
+      by-number w s (q .number) (λ n. by-end n (absent n) (corrupt n))
+      (λ a y.
+      by-status d w s types (placeOf d a) q x (seek-onward a y) (λ z. ended (a, y, z)) (λ z. refuses (a, y, z)) (λ z. small (a, y, z)) (λ z. success (a, y, z)))
 
-  pub seeks-in : SeeksIn d w s q x
+  pub seeks-in : SeeksIn d w s types q x
+  unfolding Found-then
   seeks-in =
       record {
         absent =
             record {
               only = λ k.
-                  by-number w s (q .number)
-                  (λ n. by-end n (λ e f. (n, e)) (λ e f. absurd (omega (arith, k, f))))
-                  (λ a y. by-size a y (λ l f. absurd (omega (arith, k, f))) (λ l f. absurd (omega (arith, k, f))));
+                  by-answer (λ n e f. (n, e)) (λ n e f. absurd (omega (arith, k, f))) (λ y f. absurd (omega (arith, k, f)))
+                  (λ y f. absurd (omega (arith, k, f)))
+                  (λ y f. absurd (omega (arith, k, f)))
+                  (λ y f. absurd (omega (arith, k, f)));
               when = λ y. ap (λ (z : Served). z .answer .status) (seek-absent (y .0) (y .1));
             };
         corrupt =
             record {
               only = λ k.
-                  by-number w s (q .number)
-                  (λ n. by-end n (λ e f. absurd (omega (arith, k, f))) (λ e f. (n, e)))
-                  (λ a y. by-size a y (λ l f. absurd (omega (arith, k, f))) (λ l f. absurd (omega (arith, k, f))));
-              when = λ y. ap (λ (z : Served). z .answer .status) (seek-corrupt (y .0) (y .1));
+                  by-answer (λ n e f. absurd (omega (arith, k, f))) (λ n e f. inl (n, e)) (λ y f. inr y)
+                  (λ y f. absurd (omega (arith, k, f)))
+                  (λ y f. absurd (omega (arith, k, f)))
+                  (λ y f. absurd (omega (arith, k, f)));
+              when =
+                  ⊎-elim (λ y. ap (λ (z : Served). z .answer .status) (seek-corrupt (y .0) (y .1)))
+                  (λ y. seek-onward (y .0) (y .1) .corrupt .when (y .2));
+            };
+        ended =
+            record {
+              only = λ k.
+                  by-answer (λ n e f. absurd (omega (arith, k, f))) (λ n e f. absurd (omega (arith, k, f)))
+                  (λ y f. absurd (omega (arith, k, f)))
+                  (λ y f. y)
+                  (λ y f. absurd (omega (arith, k, f)))
+                  (λ y f. absurd (omega (arith, k, f)));
+              when = λ y. seek-onward (y .0) (y .1) .ended .when (y .2);
             };
         small =
             record {
               only = λ k.
-                  by-number w s (q .number)
-                  (λ n. by-end n (λ e f. absurd (omega (arith, k, f))) (λ e f. absurd (omega (arith, k, f))))
-                  (λ a y. by-size a y (λ l f. absurd (omega (arith, k, f))) (λ l f. (a, y, l)));
-              when = λ y.
-                  seek-onward (y .0) (y .1) .small .when
-                  (record { next = y .0; found = sought-next w s d (q .number) (y .0) (y .1); longer = y .2 });
+                  by-answer (λ n e f. absurd (omega (arith, k, f))) (λ n e f. absurd (omega (arith, k, f)))
+                  (λ y f. absurd (omega (arith, k, f)))
+                  (λ y f. absurd (omega (arith, k, f)))
+                  (λ y f. y)
+                  (λ y f. absurd (omega (arith, k, f)));
+              when = λ y. seek-onward (y .0) (y .1) .small .when (y .2);
             };
         success =
             record {
               only = λ k.
-                  by-number w s (q .number)
-                  (λ n. by-end n (λ e f. absurd (omega (arith, k, f))) (λ e f. absurd (omega (arith, k, f))))
-                  (λ a y. by-size a y (λ l f. (a, y, l)) (λ l f. absurd (omega (arith, k, f))));
-              when = λ y.
-                  seek-onward (y .0) (y .1) .success .when
-                  (record { next = y .0; found = sought-next w s d (q .number) (y .0) (y .1); fits = y .2 });
+                  by-answer (λ n e f. absurd (omega (arith, k, f))) (λ n e f. absurd (omega (arith, k, f)))
+                  (λ y f. absurd (omega (arith, k, f)))
+                  (λ y f. absurd (omega (arith, k, f)))
+                  (λ y f. absurd (omega (arith, k, f)))
+                  (λ y f. y);
+              when = λ y. seek-onward (y .0) (y .1) .success .when (y .2);
             };
-        next = sought-next w s d (q .number);
+        first = λ a y u. record {
+          at = placeOf d a;
+          skipped = here;
+          found = sought-next w s d (q .number) a y;
+          want = u;
+        };
+        passed = λ a y u.
+            let f = sought-next w s d (q .number) a y in
+            skip f u
+            (subst (Skips d w s types (past d (placeOf d a) (a .length))) (sym (found-lies d w s (placeOf d a) a f .ends)) here);
         onward = seek-onward;
       }
 
-  -- the status is one of these four
+  -- the status is one of these five
   pub seek-status : {X : Type 0} → (NoneHas w s (q .number) → trace Forwards w s .refusal .number ≡ 0 → status ≡ 0xC000000D → X)
-      → (status ≡ 0xC000018E → X) → (status ≡ 0xC0000023 → X) → (status ≡ 0 → X) → X
-  seek-status absent corrupt small success =
-      by-number w s (q .number) (λ n. by-end n (absent n) (λ e. corrupt))
-      (λ a y. by-size a y (λ l. success) (λ l. small))
+      → (status ≡ 0xC0000011 → X) → (status ≡ 0xC000018E → X) → (status ≡ 0xC0000023 → X) → (status ≡ 0 → X) → X
+  seek-status absent ended corrupt small success =
+      by-answer absent (λ n e. corrupt) (λ y. corrupt) (λ y. ended) (λ y. small) (λ y. success)
