@@ -1,6 +1,8 @@
 pub mod Ahead
+pub mod Calls
 pub mod Laws
 pub mod Model
+pub mod Operations
 pub mod Samples
 pub mod Series
 pub mod Theorems

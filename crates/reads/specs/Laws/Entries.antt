@@ -28,7 +28,7 @@ use Rattle.serve.specs.declared.Place.the-variants.{Boundary}
 use Rattle.serve.specs.declared.Handle.{Handle}
 use Rattle.serve.specs.Answers.{Served, served}
 use Rattle.serve.specs.Serving.{endOfFile, bufferTooSmall, refused, servedWith}
-use Rattle.reads.specs.Model.{Entry, entries, wantedBytes, inOrder, recordsFor, joined, edgeOf, reached, fits}
+use Rattle.reads.specs.Model.{Entry, entries, wantedBytes, inOrder, recordsFor, joined, edgeOf, reached, fitsBy, fits}
 use Rattle.reads.specs.Laws.Found.{found-lies}
 use Rattle.reads.specs.Laws.Wanted.{wantedFrom, next-found, next-of}
 
@@ -72,7 +72,7 @@ stands-next {d} {w} {s} {types} {p} {e} {es} x =
 -- ---- what fits
 
 fitting-fits : (w size : ℕ) (es : List Entry) → fitting size (map (recordOf w) es) ≡ map (recordOf w) (take (fits size es) es)
-unfolding fitting fits shown
+unfolding fitting fitsBy shown
 fitting-fits w size [] = refl
 fitting-fits w size (e ∷ es) = go (leb (length (e .bytes)) size) (fitting-fits w (size - length (e .bytes)) es)
   where
@@ -94,7 +94,7 @@ all-drop zero xs ps = ps
 all-drop (suc k) [] none = none
 all-drop (suc k) (x ∷ xs) (more p ps) = all-drop k xs ps
 
-all-take : {A : Type 0} {P : A → Type 0} (k : ℕ) (xs : List A) → All P xs → All P (take k xs)
+pub all-take : {A : Type 0} {P : A → Type 0} (k : ℕ) (xs : List A) → All P xs → All P (take k xs)
 all-take zero xs ps = none
 all-take (suc k) [] none = none
 all-take (suc k) (x ∷ xs) (more p ps) = more p (all-take k xs ps)
@@ -110,7 +110,7 @@ reached-some d w x e es =
     reached-edge d w (edge d (recordOf w e)) es ∙ ap (λ i. reached d (Boundary i) es) (edge-of d w e)
 
 pub fits-first : (size : ℕ) (e : Entry) (es : List Entry) → leb (length (e .bytes)) size ≡ true → fits size (e ∷ es) ≡ suc (fits (size - length (e .bytes)) es)
-unfolding fits
+unfolding fitsBy
 fits-first size e es f = ap (λ b. cond b (suc (fits (size - length (e .bytes)) es)) 0) f
 
 -- ---- what is answered
