@@ -1,7 +1,7 @@
 // Questions to the public calls, by topic: what is asked, and what is answered. The answers stand in the file
 // stdout. They are worked samples of the specification that are run and not proved, and a wrong program of
-// must-fail/ answers some question otherwise. `rules::is_length` and `delivery::deliver` are asked only through
-// the calls above them; so one wrong program is not told apart, a delivery from a place past the log.
+// must-fail/ answers some question otherwise, here or in samples_ansi and samples_types. `rules::is_length` and
+// `delivery::deliver` are asked here only through the calls above them; samples_ansi asks the latter itself.
 
 mod appending;
 mod interface;
