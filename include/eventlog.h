@@ -306,7 +306,7 @@ typedef struct {
  * The edition, EVENTLOG_UNICODE or EVENTLOG_ANSI, comes first in each that looks at texts. */
 
 /* The record that starts at a place, or its refusal, 1 to 13.
- * Cost: its names and strings are looked at twice, to judge and to show. */
+ * Cost: its names and strings are looked at once. */
 eventlog_stepped eventlog_step(uint32_t edition, const uint8_t *buffer, size_t buffer_len, size_t at);
 
 /* The record that ends at a place, or its refusal, 1 to 13: the bytes ahead are here those before the place, and
@@ -418,8 +418,8 @@ uint32_t eventlog_types_count(uint32_t types);
  * the output as it was. A success answers the bytes read, needed 0 and a handle of kind 1 with the same types, whose
  * boundary is the end of the last record copied, backwards its start, so that records skipped after it are met again;
  * the rest of the output is left. With EVENTLOG_WANT_ALL nothing is skipped.
- * Cost: as eventlog_refusal for each record copied or skipped and for the one that stops the read, and every byte of
- * those copied is copied once; a seek walks from the front up to the record first. */
+ * Cost: as eventlog_refusal for each record copied or skipped and for the one that stops the read, unless that is only
+ * too long; and every byte of those copied is copied once; a seek walks from the front up to the record first. */
 eventlog_answer eventlog_read(uint32_t edition, eventlog_handle handle, const uint8_t *log, size_t log_len,
                               uint32_t flags, uint32_t record_number, size_t size, uint8_t *out, size_t out_len);
 
@@ -430,7 +430,7 @@ eventlog_answer eventlog_read(uint32_t edition, eventlog_handle handle, const ui
  * and no zero byte follows. An output that is shorter than the text is refused with 15 and length 0, and left as it
  * was. Else the output past the text is left. EVENTLOG_LISTING_ROOM bytes more than the batch are always enough.
  * The listing program lists Unicode.
- * Cost: the records are stepped over twice, once to measure the text. */
+ * Cost: the records are walked over twice, once to measure the text. */
 eventlog_written eventlog_listing(uint32_t edition, const uint8_t *buffer, size_t buffer_len, uint8_t *out,
                                   size_t out_len);
 

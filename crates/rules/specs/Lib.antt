@@ -1,3 +1,4 @@
 pub mod Fixed
 pub mod Rules
 pub mod Searched
+pub mod Places

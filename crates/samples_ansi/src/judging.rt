@@ -8,7 +8,9 @@ use crate::show::line;
 use crate::show::topic;
 use format::Direction;
 use format::Edition;
+use format::Refusal;
 use judge::Verdict;
+use rules::Measured;
 use stores::put;
 
 // The Length of an accepted record; of a refused one 0 and the refusal.
@@ -46,6 +48,50 @@ fn verdicts_back() {
     );
     judged_back(b"judged back at 64", Edition::Ansi, &log, 64);
     judged_back(b"judged back at 155", Edition::Ansi, &log, 155);
+}
+
+// What judging finds: the refusal and its field; the Length; and where the computer name starts, the names end
+// and the strings end.
+fn found(what: &[u8], m: Measured) {
+    let k = m.refusal;
+    line(
+        what,
+        &[
+            k.number as u64,
+            k.field as u64,
+            m.length as u64,
+            m.computer as u64,
+            m.names as u64,
+            m.strings as u64,
+        ],
+    );
+}
+
+fn measured(what: &[u8], log: &[u8; 256], at: usize) {
+    found(what, judge::measure(Edition::Ansi, log, at));
+}
+
+fn measured_back(what: &[u8], log: &[u8; 256], end: usize) {
+    found(what, judge::measure_back(Edition::Ansi, log, end));
+}
+
+fn measures() {
+    let log = log();
+    measured(b"measured at 64", &log, 64);
+    measured(b"measured at 65", &log, 65);
+    measured_back(b"measured back at 156", &log, 156);
+    measured_back(b"measured back at 155", &log, 155);
+    found(
+        b"T measured",
+        rules::measure(Edition::Ansi, Direction::Forwards, part(&log, 64, 156)),
+    );
+    found(
+        b"refused",
+        rules::refused(Refusal {
+            number: 7,
+            field: 30,
+        }),
+    );
 }
 
 // Bytes as one whole record, met forwards and backwards.
@@ -88,6 +134,7 @@ pub fn judging() {
     topic(b"verdicts");
     verdicts();
     verdicts_back();
+    measures();
     wholes();
     unequal();
 }

@@ -1,13 +1,33 @@
--- Bytes that are stored twice: a last block over the one before it.
+-- Bytes that are stored by way of others, and such as are stored twice: a last block over the one before it.
 -- Assumes nothing.
-use mathlib.Core.Path.{_≡_, sym, ap, ap₂, _∙_}
-use mathlib.Core.List.{List, _++_, append-assoc}
+use mathlib.Core.Path.{_≡_, sym, ap, ap₂, _∙_, subst}
+use mathlib.Core.List.{List, _++_, append-assoc, append-nil}
 use Prim.Native.Nat.{ℕ, _+_, _-_, _≤_}
+use native.Mathlib.Nat.{add-zero, add-sub-cancel-left}
 use native.Mathlib.Omega.{arith}
 use lib.ListN.{length, take, drop, length-append, length-drop, take-append-drop}
-use lib.Seq.{length-take-le, take-at, drop-at, drop-drop, take-add}
+use lib.Seq.{length-take-le, take-at, take-all, drop-at, drop-drop, drop-length, take-add}
+use Rattle.format.specs.Bytes.{part}
 use Rattle.format.specs.Stores.{over}
 use Rattle.format.specs.Laws.Stores.{length-over, over-then, Stored}
+use Rattle.stores.specs.Laws.{StoredPart}
+
+-- how many bytes are lent from a place to a place
+pub length-lent : (t : List ℕ) (from n : ℕ) → from + n ≤ length t → length (part from (from + n - from) t) ≡ n
+length-lent t from n h =
+    ap (λ k. length (part from k t)) (add-sub-cancel-left from n)
+    ∙ length-take-le n (drop from t) (omega (arith, h, length-drop from t))
+
+-- bytes put over as many
+over-whole : (b t : List ℕ) → length t ≡ length b → over b 0 t ≡ t
+unfolding over
+over-whole b t h =
+    let end : 0 + length t ≡ length b = omega (arith, h) in
+    ap (λ k. t ++ drop k b) end ∙ ap (λ l. t ++ l) (drop-length b) ∙ append-nil t
+
+-- by way of b
+pub stored-through : {b c l m t : List ℕ} {at q r : ℕ} → length t ≡ length b → Stored b 0 t q c → Stored l at c r m → Stored l at t r m
+stored-through {b} {c} {l} {m} {t} {at} {q} {r} h x y = subst (λ u. Stored l at u r m) (x .bytes ∙ over-whole b t h) y
 
 -- bytes put over others from the same place on, and past them
 over-again : (l : List ℕ) (p : ℕ) (u v : List ℕ) → length u ≤ length v → p + length v ≤ length l → over (over l p u) p v ≡ over l p v
@@ -22,7 +42,7 @@ over-again l p u v h room =
     ap₂ (λ a b. a ++ (v ++ b)) (take-at (take p l) (u ++ x) p (length-take-le p l (omega arith))) high
 
 -- the first m bytes of t, and then those from s on
-pub stored-twice : (t : List ℕ) (s m : ℕ) {l : List ℕ} {at q r : ℕ} {l₁ l₂ : List ℕ} → s ≤ m → m ≤ length t → at + length t ≤ length l
+stored-twice : (t : List ℕ) (s m : ℕ) {l : List ℕ} {at q r : ℕ} {l₁ l₂ : List ℕ} → s ≤ m → m ≤ length t → at + length t ≤ length l
     → Stored l at (take m t) q l₁ → Stored l₁ (at + s) (drop s t) r l₂ → Stored l at t r l₂
 stored-twice t s m {l} {at} h high room x y =
     let u : List ℕ = take s t in
@@ -42,3 +62,14 @@ stored-twice t s m {l} {at} h high room x y =
           ∙ over-then l at u (drop s t) (omega (arith, ulong, rest, room))
           ∙ ap (over l at) (take-append-drop s t);
     }
+
+-- the part at the start of t
+pub stored-first : {l m t : List ℕ} {at n q : ℕ} → StoredPart l at t 0 n q m → Stored l at (take n t) q m
+stored-first {l} {m} {t} {at} {n} {q} x = subst (λ p. Stored l p (take n t) q m) (add-zero at) (x .stored)
+
+-- the first m bytes of t, and then a part that reaches back to them and goes to the end
+pub stored-last : (m : ℕ) {l l₁ l₂ t : List ℕ} {at q r s n : ℕ} → Stored l at (take m t) q l₁ → StoredPart l₁ at t s n r l₂
+    → s + n ≡ length t → s ≤ m → m ≤ length t → at + length t ≤ length l → Stored l at t r l₂
+stored-last m {l} {l₁} {l₂} {t} {at} {q} {r} {s} {n} x y end h high room =
+    stored-twice t s m h high room x
+    (subst (λ u. Stored l₁ (at + s) u r l₂) (take-all n (drop s t) (omega (arith, end, length-drop s t))) (y .stored))

@@ -1,80 +1,117 @@
-//! Measuring, and a table in Markdown of what was measured.
+//! Rows of what was measured, and their table in Markdown.
 
-use std::time::{Duration, Instant};
+use crate::chart::Bar;
+use crate::measure::minima;
 
-/// What is measured; it answers something that has to be the same for all.
-pub type Work<'a> = &'a mut dyn FnMut() -> usize;
+/// What one row holds: the times of every run.
+struct Row<const N: usize> {
+    /// The kind of call,
+    kind: &'static str,
+    /// and on what.
+    on: String,
+    runs: Vec<[f64; N]>,
+}
 
-/// The rows by name; each has the times of every run.
+impl<const N: usize> Row<N> {
+    /// The first version's time as a part of another one's, of every run.
+    fn ratios(&self, other: usize) -> impl Iterator<Item = f64> + Clone + '_ {
+        self.runs.iter().map(move |times| times[0] / times[other])
+    }
+}
+
+/// The rows, in the order in which they were measured first.
 pub struct Table<const N: usize> {
-    head: [&'static str; N],
+    caption: &'static str,
+    /// The unit of the times, in seconds.
+    unit: f64,
+    versions: [&'static str; N],
     only: Vec<String>,
-    rows: Vec<(String, Vec<[f64; N]>)>,
+    rows: Vec<Row<N>>,
 }
 
 impl<const N: usize> Table<N> {
-    /// The first column is compared with the others. The program's arguments, if
-    /// there are any, say which rows are measured: those whose name has one. The
-    /// others are only run once.
-    pub fn new(head: [&'static str; N]) -> Self {
+    /// The first version is compared with the others. Only rows are measured whose
+    /// name has one of these words, or all where there is none.
+    pub fn new(
+        caption: &'static str,
+        unit: f64,
+        versions: [&'static str; N],
+        only: &[String],
+    ) -> Self {
         Table {
-            head,
-            only: std::env::args().skip(1).collect(),
+            caption,
+            unit,
+            versions,
+            only: only.to_vec(),
             rows: Vec::new(),
         }
     }
 
-    /// The minima of some rounds; in each the works are done in turn, and another
-    /// one goes first. The times are divided by `parts`.
-    pub fn row(&mut self, name: &str, rounds: usize, parts: f64, works: &mut [Work<'_>; N]) {
-        let chosen = self.only.is_empty() || self.only.iter().any(|part| name.contains(part));
-        let rounds = if chosen { rounds } else { 0 };
-        let mut best = [Duration::MAX; N];
-        // One round more, to warm up.
-        for round in 0..=rounds {
-            let mut answers = [0; N];
-            for turn in 0..N {
-                let i = (round + turn) % N;
-                let start = Instant::now();
-                answers[i] = works[i]();
-                let time = start.elapsed();
-                if round > 0 {
-                    best[i] = best[i].min(time);
-                }
-            }
-            let same = answers.iter().all(|answer| *answer == answers[0]);
-            assert!(same, "{name}: the answers differ: {answers:?}");
-        }
-        if !chosen {
+    /// Whether such a row is to be measured.
+    pub fn wants(&self, kind: &str, on: &str) -> bool {
+        let name = name(kind, on);
+        self.only.is_empty() || self.only.iter().any(|word| name.contains(word))
+    }
+
+    /// Measures a row, once more where it was measured before. Each work does
+    /// `parts` of what is shown.
+    pub fn row<F: FnMut() -> usize>(
+        &mut self,
+        kind: &'static str,
+        on: &str,
+        parts: usize,
+        mut works: [F; N],
+    ) {
+        if !self.wants(kind, on) {
             return;
         }
-        let times = best.map(|time| time.as_secs_f64() / parts);
-        match self.rows.iter_mut().find(|row| row.0 == name) {
-            Some(row) => row.1.push(times),
-            None => self.rows.push((name.into(), vec![times])),
+        let times = minima(&name(kind, on), &mut works).map(|time| time / parts as f64);
+        let mut rows = self.rows.iter_mut();
+        match rows.find(|row| (row.kind, &row.on[..]) == (kind, on)) {
+            Some(row) => row.runs.push(times),
+            None => self.rows.push(Row {
+                kind,
+                on: on.into(),
+                runs: vec![times],
+            }),
         }
     }
 
-    /// Prints the lowest and the highest of all runs: the times in this unit of
-    /// seconds, and the first column's as parts of the others'.
-    pub fn print(&self, unit: f64) {
-        let others = &self.head[1..];
-        let first = self.head[0];
-        let ratios: Vec<_> = others.iter().map(|o| format!("{first} / {o}")).collect();
-        println!("| | {} | {} |", self.head.join(" | "), ratios.join(" | "));
-        println!("|---{}|", "|---".repeat(2 * N - 1));
-        for (name, runs) in &self.rows {
-            let mut cells = Vec::new();
-            for i in 0..N {
-                cells.push(range(runs.iter().map(|times| times[i] / unit)));
-            }
-            for i in 1..N {
-                cells.push(range(runs.iter().map(|times| times[0] / times[i])));
-            }
-            println!("| {name} | {} |", cells.join(" | "));
-        }
-        println!();
+    /// The highest ratio of each row to the version of this name.
+    pub fn bars(&self, other: &str) -> impl Iterator<Item = Bar<'_>> {
+        let other = self.versions.iter().position(|v| *v == other);
+        let other = other.expect("the table has this version");
+        self.rows.iter().map(move |row| Bar {
+            kind: row.kind,
+            on: &row.on,
+            ratio: row.ratios(other).fold(0.0, f64::max),
+        })
     }
+
+    /// The lowest and the highest of all runs: the times, and the first version's
+    /// as parts of the others'. Nothing where no row was measured.
+    pub fn markdown(&self) -> String {
+        if self.rows.is_empty() {
+            return String::new();
+        }
+        let first = self.versions[0];
+        let ratios = self.versions[1..].iter().map(|v| format!("{first} / {v}"));
+        let versions = self.versions.into_iter().map(String::from);
+        let head: Vec<_> = versions.chain(ratios).collect();
+        let mut text = format!("{}\n\n| | {} |\n", self.caption, head.join(" | "));
+        text += &format!("|---{}|\n", "|---".repeat(head.len()));
+        for row in &self.rows {
+            let times = (0..N).map(|i| range(row.runs.iter().map(|run| run[i] / self.unit)));
+            let ratios = (1..N).map(|i| range(row.ratios(i)));
+            let cells: Vec<_> = times.chain(ratios).collect();
+            text += &format!("| {} | {} |\n", name(row.kind, &row.on), cells.join(" | "));
+        }
+        text + "\n"
+    }
+}
+
+fn name(kind: &str, on: &str) -> String {
+    format!("{kind}, {on}")
 }
 
 /// From the lowest to the highest, or one number where they are shown alike.
@@ -93,6 +130,7 @@ fn shown(number: f64) -> String {
         100.0.. => format!("{number:.0}"),
         10.0.. => format!("{number:.1}"),
         0.1.. => format!("{number:.2}"),
-        _ => format!("{number:.3}"),
+        0.01.. => format!("{number:.3}"),
+        _ => format!("{number:.4}"),
     }
 }

@@ -218,11 +218,13 @@ pub fn refusal(edition: Edition, buffer: &[u8], at: usize) -> Option<Refused> {
 /// # Ok::<(), Box<dyn std::error::Error>>(())
 /// ```
 pub fn string(edition: Edition, buffer: &[u8], at: usize, k: u32) -> Result<Text<'_>, Refused> {
-    string_refusal(edition, buffer, at, k).map_or(Ok(()), Err)?;
-    Ok(Text::new(slice(
-        buffer,
-        ffi::string(edition, buffer, at, k),
-    )))
+    let part = ffi::string(edition, buffer, at, k);
+    // No string lies at place 0, where a record's fixed part stands: so the refusal is asked for only where
+    // there is one.
+    if part.at == 0 {
+        string_refusal(edition, buffer, at, k).map_or(Ok(()), Err)?;
+    }
+    Ok(Text::new(slice(buffer, part)))
 }
 
 /// Why string `k` of the record that starts at `at` is refused, if it is.

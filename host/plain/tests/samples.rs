@@ -207,7 +207,7 @@ fn gaps_before_the_first_part() {
         assert_eq!(step_back(Unicode, &record, length), Ok(read));
         assert_eq!(
             (read.sid, read.string(0), read.event_data),
-            (&SID[..], Some(&OK[..]), &[0; 3][..])
+            (SID, Some(OK), &[0; 3][..])
         );
         // Written again it is T.
         assert_eq!(written(Unicode, &t_event()), T);
