@@ -1,6 +1,7 @@
 // Questions about sets of event types: which types a set holds, and reads of the types of a set, of a log of four
-// records of the types 4, 0, 16 and 4 and the numbers 7 to 10, with half a record behind them or not. A line
-// has the question's numbers and then the answer's; a fresh handle is shown as boundary 1000.
+// records of the types 4, 0, 16 and 4 and the numbers 7 to 10, with half a record behind them or not; and of a
+// log of three with a long one between. A line has the question's numbers and then the answer's; a fresh handle is
+// shown as boundary 1000.
 
 mod show;
 
@@ -26,6 +27,16 @@ fn log() -> [u8; 288] {
     put(&mut r, 64, &record(8, 0));
     put(&mut r, 128, &record(9, 16));
     put(&mut r, 192, &record(10, 4));
+    r
+}
+
+// Two records of type 4, and between them one of type 0 that is longer.
+fn long_between() -> [u8; 196] {
+    let mut r = [0u8; 196];
+    put(&mut r, 0, &record(7, 4));
+    put(&mut r, 64, b"\x44\0\0\0LfLe\x08");
+    put(&mut r, 128, b"\x44");
+    put(&mut r, 132, &record(9, 4));
     r
 }
 
@@ -212,6 +223,14 @@ fn boundaries(log: &[u8]) {
     onward(log, 400);
 }
 
+// An unwanted record is skipped, also where it does not fit into what is left of the output.
+fn skips() {
+    let s = long_between();
+    read(&s, 1000, 4, 5, 0, 128);
+    read(&s, 1000, 4, 9, 0, 128);
+    read(&s, 1000, 63, 5, 0, 128);
+}
+
 // The bytes up to a place, none where they are not there.
 fn part(s: &[u8], to: usize) -> &[u8] {
     if to <= s.len() {
@@ -235,4 +254,5 @@ fn main() {
     boundaries(part(&s, 256));
     border(&s, 4, 64);
     border(&s, 32, 63);
+    skips();
 }

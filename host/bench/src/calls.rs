@@ -60,9 +60,9 @@ macro_rules! common {
             let edition = edition(e);
             let (mut at, mut sum) = (0, 0);
             while at < log.len() {
+                let record = $library::step(edition, log, at).expect("it is good");
                 // All of the record is shown, also where a library is compiled into this loop.
-                let record = black_box($library::step(edition, log, at).expect("it is good"));
-                sum += parts(&record);
+                sum += parts(black_box(&record));
                 at += record.length;
             }
             sum

@@ -51,6 +51,7 @@ pub fn blocks(bytes: usize) -> usize {
 ///
 /// [`Refusal::CardLog`] where the log is longer than [`MAX_LOG`], and then
 /// [`Refusal::Output`]. A refusal leaves `out` as it was.
+#[inline]
 pub fn write(log: &[u8], out: &mut [u8]) -> Result<usize, Refusal> {
     let written = ffi::card_write(log, out);
     Refusal::unless(written.refusal, written.length)
@@ -62,6 +63,7 @@ pub fn write(log: &[u8], out: &mut [u8]) -> Result<usize, Refusal> {
 ///
 /// [`Refusal::CardLength`]; then what [`judge`] says of the first block that it
 /// refuses; then [`Refusal::Output`]. A refusal leaves `out` as it was.
+#[inline]
 pub fn read(image: &[u8], out: &mut [u8]) -> Result<usize, Refusal> {
     let written = ffi::card_read(image, out);
     Refusal::unless(written.refusal, written.length)

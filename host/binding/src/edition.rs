@@ -32,6 +32,7 @@ impl Edition {
     /// assert_eq!(eventlog::Edition::Ansi.number(), 1);
     /// ```
     #[must_use]
+    #[inline]
     pub const fn number(self) -> u32 {
         self as u32
     }
@@ -43,6 +44,7 @@ impl Edition {
     /// assert_eq!((Edition::Unicode.width(), Edition::Ansi.width()), (2, 1));
     /// ```
     #[must_use]
+    #[inline]
     pub const fn width(self) -> usize {
         match self {
             Edition::Unicode => 2,

@@ -235,46 +235,55 @@ unsafe extern "C" {
     ) -> Written;
 }
 
+#[inline]
 pub(crate) fn step(edition: Edition, buffer: &[u8], at: usize) -> Stepped {
     // SAFETY: `buffer` is readable for its length; any place may be asked for.
     unsafe { eventlog_step(edition.number(), buffer.as_ptr(), buffer.len(), at) }
 }
 
+#[inline]
 pub(crate) fn step_back(edition: Edition, buffer: &[u8], end: usize) -> Stepped {
     // SAFETY: as in `step`.
     unsafe { eventlog_step_back(edition.number(), buffer.as_ptr(), buffer.len(), end) }
 }
 
+#[inline]
 pub(crate) fn refusal(edition: Edition, buffer: &[u8], at: usize) -> Refused {
     // SAFETY: as in `step`.
     unsafe { eventlog_refusal(edition.number(), buffer.as_ptr(), buffer.len(), at) }
 }
 
+#[inline]
 pub(crate) fn string(edition: Edition, buffer: &[u8], at: usize, k: u32) -> Part {
     // SAFETY: as in `step`; any number may be asked for.
     unsafe { eventlog_string(edition.number(), buffer.as_ptr(), buffer.len(), at, k) }
 }
 
+#[inline]
 pub(crate) fn string_refusal(edition: Edition, buffer: &[u8], at: usize, k: u32) -> Refused {
     // SAFETY: as in `string`.
     unsafe { eventlog_string_refusal(edition.number(), buffer.as_ptr(), buffer.len(), at, k) }
 }
 
+#[inline]
 pub(crate) fn next_string(edition: Edition, buffer: &[u8], run: Part, place: usize) -> NextString {
     // SAFETY: `buffer` is readable for its length; any run and place may be given.
     unsafe { eventlog_next_string(edition.number(), buffer.as_ptr(), buffer.len(), run, place) }
 }
 
+#[inline]
 pub(crate) fn walk(edition: Edition, buffer: &[u8]) -> Walked {
     // SAFETY: `buffer` is readable for its length.
     unsafe { eventlog_walk(edition.number(), buffer.as_ptr(), buffer.len()) }
 }
 
+#[inline]
 pub(crate) fn walk_back(edition: Edition, buffer: &[u8]) -> Walked {
     // SAFETY: `buffer` is readable for its length.
     unsafe { eventlog_walk_back(edition.number(), buffer.as_ptr(), buffer.len()) }
 }
 
+#[inline]
 pub(crate) fn write(
     edition: Edition,
     record_number: u32,
@@ -314,6 +323,7 @@ pub(crate) fn write(
     }
 }
 
+#[inline]
 pub(crate) fn append(edition: Edition, log: &mut [u8], used: usize, e: &Event<'_>) -> Appended {
     let fields = Unnumbered {
         time_generated: e.time_generated,
@@ -347,6 +357,7 @@ pub(crate) fn append(edition: Edition, log: &mut [u8], used: usize, e: &Event<'_
     }
 }
 
+#[inline]
 pub(crate) fn fresh(types: u32) -> Handle {
     // SAFETY: takes any number.
     unsafe { eventlog_fresh(types) }
@@ -357,6 +368,7 @@ pub(crate) fn types_count(types: u32) -> u32 {
     unsafe { eventlog_types_count(types) }
 }
 
+#[inline]
 pub(crate) fn read(
     edition: Edition,
     handle: Handle,
@@ -383,6 +395,7 @@ pub(crate) fn read(
     }
 }
 
+#[inline]
 pub(crate) fn listing(edition: Edition, buffer: &[u8], out: &mut [u8]) -> Written {
     // SAFETY: `buffer` is readable and `out` writable for its length; a `&mut`
     // does not overlap.
@@ -461,6 +474,7 @@ mod tests {
     const OTHERS: u32 = ALL - WANTED;
     const HIGH: u32 = 1 << 31;
 
+    #[inline]
     fn record() -> Vec<u8> {
         let mut record = vec![0; LENGTH];
         let written = Written {

@@ -55,6 +55,7 @@ impl Status {
     }
 
     /// The status with the library's code, `None` for success.
+    #[inline]
     fn from_code(code: u32, needed: usize) -> Option<Self> {
         Some(match code {
             0 => return None,
@@ -245,6 +246,7 @@ impl Handle {
     /// assert_eq!((handle.place, handle.types), (Place::Fresh, Types::ERROR));
     /// ```
     #[must_use]
+    #[inline]
     pub fn fresh(types: Types) -> Self {
         ffi::fresh(types.bits()).into()
     }
@@ -280,6 +282,7 @@ impl Handle {
     /// assert_eq!(numbers, [2, 1]);
     /// # Ok::<(), Box<dyn std::error::Error>>(())
     /// ```
+    #[inline]
     pub fn read<'o>(
         self,
         edition: Edition,
@@ -319,6 +322,7 @@ impl Handle {
     /// assert_eq!(error.status, Status::InvalidParameter);
     /// # Ok::<(), Box<dyn std::error::Error>>(())
     /// ```
+    #[inline]
     pub fn read_with_flags<'o>(
         self,
         edition: Edition,
@@ -342,6 +346,7 @@ impl Handle {
 }
 
 impl From<ffi::Handle> for Handle {
+    #[inline]
     fn from(handle: ffi::Handle) -> Self {
         let place = match handle.kind {
             0 => Place::Fresh,
@@ -353,6 +358,7 @@ impl From<ffi::Handle> for Handle {
 }
 
 impl From<Handle> for ffi::Handle {
+    #[inline]
     fn from(handle: Handle) -> Self {
         let (kind, boundary) = match handle.place {
             Place::Fresh => (0, 0),

@@ -138,6 +138,7 @@ impl<'a> Record<'a> {
     /// assert_eq!(record.string(2), Err(Refusal::NoString));
     /// # Ok::<(), Box<dyn std::error::Error>>(())
     /// ```
+    #[inline]
     pub fn string(&self, k: u32) -> Result<Text<'a>, Refusal> {
         self.strings().nth(k as usize).ok_or(Refusal::NoString)
     }
@@ -158,6 +159,7 @@ impl<'a> Record<'a> {
 /// assert_eq!(step(Unicode, &buffer, 9).unwrap_err().refusal, Refusal::Length);
 /// # Ok::<(), Box<dyn std::error::Error>>(())
 /// ```
+#[inline]
 pub fn step(edition: Edition, buffer: &[u8], at: usize) -> Result<Record<'_>, BadRecord> {
     record(edition, buffer, &ffi::step(edition, buffer, at))
 }
@@ -176,6 +178,7 @@ pub fn step(edition: Edition, buffer: &[u8], at: usize) -> Result<Record<'_>, Ba
 /// assert_eq!(step_back(Unicode, &buffer, length), step(Unicode, &buffer, 0));
 /// # Ok::<(), eventlog::Refusal>(())
 /// ```
+#[inline]
 pub fn step_back(edition: Edition, buffer: &[u8], end: usize) -> Result<Record<'_>, BadRecord> {
     record(edition, buffer, &ffi::step_back(edition, buffer, end))
 }
@@ -193,6 +196,7 @@ pub fn step_back(edition: Edition, buffer: &[u8], end: usize) -> Result<Record<'
 /// # Ok::<(), eventlog::Refusal>(())
 /// ```
 #[must_use]
+#[inline]
 pub fn refusal(edition: Edition, buffer: &[u8], at: usize) -> Option<Refused> {
     let refused = ffi::refusal(edition, buffer, at);
     Refused::from_numbers(refused.refusal, refused.field)
@@ -217,6 +221,7 @@ pub fn refusal(edition: Edition, buffer: &[u8], at: usize) -> Option<Refused> {
 /// assert_eq!(string(Unicode, &buffer, 1, 0).unwrap_err().refusal, Refusal::Length);
 /// # Ok::<(), Box<dyn std::error::Error>>(())
 /// ```
+#[inline]
 pub fn string(edition: Edition, buffer: &[u8], at: usize, k: u32) -> Result<Text<'_>, Refused> {
     let part = ffi::string(edition, buffer, at, k);
     // No string lies at place 0, where a record's fixed part stands: so the refusal is asked for only where
@@ -234,11 +239,13 @@ pub fn string(edition: Edition, buffer: &[u8], at: usize, k: u32) -> Result<Text
 /// assert_eq!(string_refusal(Unicode, &[], 0, 0).unwrap().refusal, Refusal::Place);
 /// ```
 #[must_use]
+#[inline]
 pub fn string_refusal(edition: Edition, buffer: &[u8], at: usize, k: u32) -> Option<Refused> {
     let refused = ffi::string_refusal(edition, buffer, at, k);
     Refused::from_numbers(refused.refusal, refused.field)
 }
 
+#[inline]
 fn record<'a>(
     edition: Edition,
     buffer: &'a [u8],
@@ -287,6 +294,7 @@ fn record<'a>(
 
 /// The part's bytes. It is proved to lie in the buffer; a panic tells that the
 /// structs here and in the library are laid out differently.
+#[inline]
 pub(crate) fn slice(buffer: &[u8], part: Part) -> &[u8] {
     &buffer[part.at..][..part.len]
 }

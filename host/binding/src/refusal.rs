@@ -75,6 +75,7 @@ impl Refusal {
     /// assert_eq!(eventlog::Refusal::NoString.number(), 17);
     /// ```
     #[must_use]
+    #[inline]
     pub const fn number(self) -> u32 {
         self as u32
     }
@@ -111,6 +112,7 @@ impl Refusal {
     }
 
     /// The answer, unless the library's number is a refusal's.
+    #[inline]
     pub(crate) fn unless<T>(number: u32, answer: T) -> Result<T, Self> {
         Refusal::from_number(number).map_or(Ok(answer), Err)
     }
@@ -173,11 +175,13 @@ pub struct Refused {
 
 impl Refused {
     /// The refusal with the library's number and field, `None` for number 0.
+    #[inline]
     pub(crate) fn from_numbers(number: u32, field: usize) -> Option<Self> {
         Refusal::from_number(number).map(|refusal| Refused { refusal, field })
     }
 
     /// The answer, unless the library's number is a refusal's.
+    #[inline]
     pub(crate) fn unless<T>(number: u32, field: usize, answer: T) -> Result<T, Self> {
         Refused::from_numbers(number, field).map_or(Ok(answer), Err)
     }

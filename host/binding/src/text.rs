@@ -37,6 +37,7 @@ impl<'a> Text<'a> {
     /// assert!(Text::new(&[0x41, 0, 0xAC, 0x20]).units().eq([0x41, 0x20AC]));
     /// ```
     #[must_use]
+    #[inline]
     pub const fn new(bytes: &'a [u8]) -> Self {
         Text(bytes)
     }
@@ -48,6 +49,7 @@ impl<'a> Text<'a> {
     /// assert_eq!(eventlog::Text::new(b"OK").as_bytes(), b"OK");
     /// ```
     #[must_use]
+    #[inline]
     pub const fn as_bytes(self) -> &'a [u8] {
         self.0
     }
@@ -130,6 +132,7 @@ pub struct Units<'a>(Iter<'a, [u8; 2]>);
 impl Iterator for Units<'_> {
     type Item = u16;
 
+    #[inline]
     fn next(&mut self) -> Option<u16> {
         self.0.next().copied().map(u16::from_le_bytes)
     }
@@ -176,6 +179,7 @@ impl<'a> Strings<'a> {
     /// assert_eq!(Strings::new(Edition::Unicode, b"O\0K\0\0\0").count(), 1);
     /// assert_eq!(Strings::new(Edition::Ansi, b"O\0K\0\0\0").count(), 4);
     /// ```
+    #[inline]
     pub const fn new(edition: Edition, run: &'a [u8]) -> Self {
         Strings {
             edition,
@@ -188,6 +192,7 @@ impl<'a> Strings<'a> {
 impl<'a> Iterator for Strings<'a> {
     type Item = Text<'a>;
 
+    #[inline]
     fn next(&mut self) -> Option<Text<'a>> {
         let run = Run {
             at: 0,
@@ -242,6 +247,7 @@ pub struct Run {
 /// assert_eq!(next_string(Unicode, buffer, run, next), Err(Refusal::NoString));
 /// # Ok::<(), Refusal>(())
 /// ```
+#[inline]
 pub fn next_string(
     edition: Edition,
     buffer: &[u8],

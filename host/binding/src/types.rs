@@ -93,6 +93,7 @@ impl Types {
     /// assert_eq!(Types::of(&[ERROR | WARNING]), None);
     /// ```
     #[must_use]
+    #[inline]
     pub fn of(event_types: &[u16]) -> Option<Types> {
         let mut sets = event_types.iter().map(|event_type| Types::one(*event_type));
         sets.try_fold(Types::NONE, |all, one| Some(all | one?))
@@ -125,6 +126,7 @@ impl Types {
     /// assert_eq!(status(64), Status::InvalidParameter);
     /// ```
     #[must_use]
+    #[inline]
     pub const fn from_bits(bits: u32) -> Types {
         Types(bits)
     }
@@ -136,6 +138,7 @@ impl Types {
     /// assert_eq!((Types::ERROR | Types::SUCCESS).bits(), 33);
     /// ```
     #[must_use]
+    #[inline]
     pub const fn bits(self) -> u32 {
         self.0
     }

@@ -68,6 +68,7 @@ impl Error for StoppedWalk {}
 /// assert_eq!((stopped.count, stopped.at), (2, used));
 /// # Ok::<(), Box<dyn std::error::Error>>(())
 /// ```
+#[inline]
 pub fn walk(edition: Edition, buffer: &[u8]) -> Result<usize, StoppedWalk> {
     counted(&ffi::walk(edition, buffer))
 }
@@ -89,6 +90,7 @@ pub fn walk(edition: Edition, buffer: &[u8]) -> Result<usize, StoppedWalk> {
 /// assert_eq!((stopped.count, stopped.at), (0, log.len()));
 /// # Ok::<(), Box<dyn std::error::Error>>(())
 /// ```
+#[inline]
 pub fn walk_back(edition: Edition, buffer: &[u8]) -> Result<usize, StoppedWalk> {
     counted(&ffi::walk_back(edition, buffer))
 }
@@ -207,6 +209,7 @@ impl Records<'_> {
 impl<'a> Iterator for Records<'a> {
     type Item = Result<Record<'a>, BadRecord>;
 
+    #[inline]
     fn next(&mut self) -> Option<Self::Item> {
         if self.stopped || self.place >= self.buffer.len() {
             return None;
@@ -272,6 +275,7 @@ impl RecordsBack<'_> {
 impl<'a> Iterator for RecordsBack<'a> {
     type Item = Result<Record<'a>, BadRecord>;
 
+    #[inline]
     fn next(&mut self) -> Option<Self::Item> {
         if self.stopped || self.place == 0 {
             return None;

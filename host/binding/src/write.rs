@@ -71,6 +71,7 @@ pub struct Event<'a> {
 /// assert_eq!(write(Unicode, 7, &event, &mut out[..length - 1]), Err(Refusal::Output));
 /// # Ok::<(), Box<dyn std::error::Error>>(())
 /// ```
+#[inline]
 pub fn write(
     edition: Edition,
     record_number: u32,
@@ -104,6 +105,7 @@ pub fn write(
 /// assert_eq!(full.refusal, Refusal::Output);
 /// # Ok::<(), Box<dyn std::error::Error>>(())
 /// ```
+#[inline]
 pub fn append(
     edition: Edition,
     log: &mut [u8],
@@ -136,6 +138,7 @@ pub fn append(
 /// assert_eq!(listing(Unicode, &batch, &mut out[..16]), Err(Refusal::Output));
 /// # Ok::<(), Refusal>(())
 /// ```
+#[inline]
 pub fn listing<'o>(edition: Edition, buffer: &[u8], out: &'o mut [u8]) -> Result<&'o str, Refusal> {
     let written = ffi::listing(edition, buffer, out);
     let length = Refusal::unless(written.refusal, written.length)?;
