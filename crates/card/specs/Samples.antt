@@ -2,10 +2,12 @@
 -- is worked out by hand: the sums of each block stand beside it.
 -- Assumes nothing.
 use mathlib.Core.Path.{_≡_, refl}
+use mathlib.Core.Bool.{true}
 use mathlib.Core.List.{List, [], _∷_, _++_, map}
 use Prim.Native.Nat.{ℕ}
 use lib.ListN.{length, drop, replicate}
 use Rattle.format.specs.Bytes.{zeros}
+use Rattle.format.specs.Laws.Tests.{same, sames, sames-lists}
 use Rattle.card.specs.Check.{sumBelow, lowSum, highSum}
 use Rattle.card.specs.Block.{checkedBytes, checked, block}
 use Rattle.card.specs.Image.{blockCount, below, lastMark, blockOf, image}
@@ -49,7 +51,10 @@ got a = a .got
 unfoldable pub said : Sample → List ℕ
 said a = a .said
 
+tested : sames (map got table) (map said table) ≡ true
+unfolding table got said same sames emptyCard shortCard fullCard sumBelow lowSum highSum checkedBytes checked block blockCount below lastMark blockOf image checkTest usedTest allZero guard judged imageTest blockRefusal firstRefusal imageRefusal logIn
+tested = refl
+
 -- Rule 12.10: every sample comes out as section 13 says
 pub samples : map got table ≡ map said table
-unfolding table got said emptyCard shortCard fullCard sumBelow lowSum highSum checkedBytes checked block blockCount below lastMark blockOf image checkTest usedTest allZero guard judged imageTest blockRefusal firstRefusal imageRefusal logIn
-samples = refl
+samples = sames-lists (map got table) (map said table) tested

@@ -1,4 +1,3 @@
-mod FirstPart
 mod RuleOrder
 mod NameSearch
 mod Names

@@ -1,4 +1,3 @@
-pub mod Fixed
 pub mod Rules
 pub mod Searched
 pub mod Places

@@ -1,73 +1,98 @@
 // The listing of a batch: the refusal, how long the text is, and the output.
 
+use crate::Kind;
+use crate::Value;
+use crate::ask;
+use crate::each;
 use crate::records::log;
 use crate::records::part;
 use crate::show::bytes;
-use crate::show::line;
+use crate::show::line1;
+use crate::show::line2;
+use crate::show::output;
 use crate::show::topic;
+use crate::table::number;
+use crate::table::what;
 use format::Edition;
+use format::Written;
 use libc::STDOUT_FILENO;
 
-fn list(what: &[u8], batch: &[u8], out: &mut [u8]) {
+// The first bytes of the log, into so much room.
+pub fn list(q: &[u8]) {
+    let mut out = [0xaau8; 40];
+    let room = number(q, 2);
+    if room <= 40 {
+        list_into(what(q), part(&log(), 0, number(q, 1)), &mut out[..room]);
+    }
+}
+
+fn list_into(what: &[u8], batch: &[u8], out: &mut [u8]) {
     let w = listing::listing(Edition::Unicode, batch, out);
-    line(what, &[w.refusal as u64, w.length as u64]);
-    io::write_all(STDOUT_FILENO, part(out, 0, w.length));
+    show_text(what, w, out);
     bytes(b"  after it", part(out, w.length, out.len()));
 }
 
-fn list_log(what: &[u8], log: &[u8; 284], end: usize, out: &mut [u8]) {
-    list(what, part(log, 0, end), out);
+fn show_text(what: &[u8], w: Written, out: &[u8]) {
+    line2(what, w.refusal as u64, w.length as u64);
+    io::write_all(STDOUT_FILENO, part(out, 0, w.length));
 }
 
 // What the listing program writes for these bytes, with more after them or not.
 fn input(what: &[u8], batch: &[u8], more: bool) {
     let mut out = [0xaau8; 40];
     let w = listing::input_listing(batch, more, &mut out);
-    line(what, &[w.refusal as u64, w.length as u64]);
-    show_text(&out, w.length);
-}
-
-fn show_text(out: &[u8; 40], n: usize) {
-    io::write_all(STDOUT_FILENO, part(out, 0, n));
+    show_text(what, w, &out);
 }
 
 fn inputs(log: &[u8; 284]) {
     input(b"input S, T, U", log, false);
     input(b"input S, T, U and more", log, true);
-    input(b"input of 65536 zeros", &[0u8; 65536], false);
-    input(b"input of 65537 zeros", &[0u8; 65537], false);
 }
 
-fn digits() {
-    line(
-        b"digits of 0, 9, 10, 99, 100 and the last number",
-        &[
-            decimal::count_digits(0) as u64,
-            decimal::count_digits(9) as u64,
-            decimal::count_digits(10) as u64,
-            decimal::count_digits(99) as u64,
-            decimal::count_digits(100) as u64,
-            decimal::count_digits(0xffff_ffff_ffff_ffff) as u64,
-        ],
-    );
+fn long_inputs(zeros: &[u8; 65537]) {
+    input(b"input of 65536 zeros", part(zeros, 0, 65536), false);
+    input(b"input of 65537 zeros", zeros, false);
 }
 
-fn field(what: &[u8], at: usize, n: u64, out: &mut [u8]) {
-    line(what, &[decimal::put_field(out, at, n, b';') as u64]);
-    bytes(b"  the output", out);
+// A number into so much room, at a place.
+pub fn decimal(q: &[u8]) {
+    let mut out = [0xaau8; 8];
+    let room = number(q, 3);
+    if room <= 8 {
+        decimal_into(q, &mut out[..room]);
+    }
+}
+
+fn decimal_into(q: &[u8], out: &mut [u8]) {
+    let n = decimal::put_field(out, number(q, 1), number(q, 2) as u64, b';');
+    line1(what(q), n as u64);
+    output(out);
 }
 
 pub fn listings() {
-    let log = log();
     topic(b"listings");
-    list_log(b"S, T, U", &log, 284, &mut [0xaau8; 40]);
-    list_log(b"S, T, U, just enough room", &log, 284, &mut [0xaau8; 36]);
-    list_log(b"S, T, U, a byte too little", &log, 284, &mut [0xaau8; 35]);
-    list_log(b"S, T and a part of U", &log, 283, &mut [0xaau8; 20]);
-    list(b"no records", b"", &mut [0xaau8; 12]);
-    list(b"no records, no room", b"", &mut [0xaau8; 9]);
-    inputs(&log);
-    digits();
-    field(b"1070 at 1", 1, 1070, &mut [0xaau8; 8]);
-    field(b"1070 at 1 of 4 bytes", 1, 1070, &mut [0xaau8; 4]);
+    ask(
+        Kind::List,
+        b"\
+S, T, U|284|40
+S, T, U, just enough room|284|36
+S, T, U, a byte too little|284|35
+S, T and a part of U|283|20
+no records|0|12
+no records, no room|0|9
+",
+    );
+    inputs(&log());
+    long_inputs(&[0u8; 65537]);
+    each(
+        Value::Digits,
+        b"digits of 0, 9, 10, 99, 100 and the last number|0|9|10|99|100|18446744073709551615\n",
+    );
+    ask(
+        Kind::Decimal,
+        b"\
+1070 at 1|1|1070|8
+1070 at 1 of 4 bytes|1|1070|4
+",
+    );
 }

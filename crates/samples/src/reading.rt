@@ -1,13 +1,22 @@
 // Reading: records at a place and from the rear, their refusals, their parts and their strings.
 
-use crate::published::published;
+use crate::Kind;
+use crate::ask;
 use crate::records::log;
+use crate::records::log_with;
 use crate::records::part;
 use crate::records::s;
 use crate::records::t;
 use crate::show::bytes;
 use crate::show::line;
+use crate::show::line3;
+use crate::show::line4;
 use crate::show::topic;
+use crate::table::field;
+use crate::table::number;
+use crate::table::number32;
+use crate::table::patch;
+use crate::table::what;
 use format::Edition;
 use format::Part;
 use format::Record;
@@ -15,10 +24,8 @@ use format::Refusal;
 use format::Step;
 use stores::put;
 
-// Start and Length, the numbers, and where the parts lie.
-pub fn show_record(what: &[u8], a: Record) {
+fn show_numbers(a: Record) {
     let f = a.fields;
-    line(what, &[0, a.start as u64, a.length as u64]);
     line(
         b"  number, times, event, type, strings, category, flags",
         &[
@@ -32,14 +39,15 @@ pub fn show_record(what: &[u8], a: Record) {
             f.reserved_flags as u64,
         ],
     );
-    line(
+}
+
+fn show_places(a: Record) {
+    line4(
         b"  names",
-        &[
-            a.source_name.at as u64,
-            a.source_name.len as u64,
-            a.computer_name.at as u64,
-            a.computer_name.len as u64,
-        ],
+        a.source_name.at as u64,
+        a.source_name.len as u64,
+        a.computer_name.at as u64,
+        a.computer_name.len as u64,
     );
     line(
         b"  SID, strings and data",
@@ -54,20 +62,34 @@ pub fn show_record(what: &[u8], a: Record) {
     );
 }
 
-// An array's type says its length, which nothing that is asked of it changes.
-fn step(what: &[u8], log: &[u8; 284], at: usize) {
-    show_step(what, record::step(Edition::Unicode, log, at));
+// Start and Length, the numbers, and where the parts lie.
+pub fn show_record(what: &[u8], a: Record) {
+    line3(what, 0, a.start as u64, a.length as u64);
+    show_numbers(a);
+    show_places(a);
 }
 
-fn step_back(what: &[u8], log: &[u8; 284], end: usize) {
-    show_step(what, record::step_back(Edition::Unicode, log, end));
+// The record at a place of the log.
+pub fn step(q: &[u8]) {
+    show_step(
+        what(q),
+        record::step(Edition::Unicode, &log(), number(q, 1)),
+    );
+}
+
+// The record that ends at a place of the log.
+pub fn step_back(q: &[u8]) {
+    show_step(
+        what(q),
+        record::step_back(Edition::Unicode, &log(), number(q, 1)),
+    );
 }
 
 fn show_step(what: &[u8], x: Step) {
     match x {
         Step::Found(a) => show_record(what, a),
         Step::Refused { refusal: k, at: p } => {
-            line(what, &[k.number as u64, k.field as u64, p as u64])
+            line3(what, k.number as u64, k.field as u64, p as u64)
         }
     }
 }
@@ -88,145 +110,143 @@ pub fn refusal_back(r: &[u8], end: usize) -> Refusal {
 pub fn refusals(what: &[u8], r: &[u8]) {
     let f = record::refusal(Edition::Unicode, r, 0);
     let b = refusal_back(r, r.len());
-    line(
+    line4(
         what,
-        &[
-            f.number as u64,
-            f.field as u64,
-            b.number as u64,
-            b.field as u64,
-        ],
+        f.number as u64,
+        f.field as u64,
+        b.number as u64,
+        b.field as u64,
     );
 }
 
-// T with these bytes put over it from a place on.
-fn changed(what: &[u8], at: usize, u: &[u8]) {
-    let mut r = t();
-    put(&mut r, at, u);
-    refusals(what, &r);
+// The first bytes of S.
+pub fn start_of_s(q: &[u8]) {
+    refusals(what(q), part(&s(), 0, number(q, 1)));
 }
 
-fn steps() {
-    let log = log();
-    step(b"step at 0", &log, 0);
-    step(b"step at 64", &log, 64);
-    step(b"step at 168", &log, 168);
-    step(b"step at 1", &log, 1);
-    step(b"step at 284", &log, 284);
-    step(b"step at 285", &log, 285);
-    step(b"step at the last number", &log, 0xffff_ffff_ffff_ffff);
+// A record with bytes put over it.
+pub fn changed(q: &[u8], r: &mut [u8]) {
+    patch(r, q, 1);
+    refusals(what(q), r);
 }
 
-fn steps_back() {
-    let log = log();
-    step_back(b"step back at 284", &log, 284);
-    step_back(b"step back at 168", &log, 168);
-    step_back(b"step back at 64", &log, 64);
-    step_back(b"step back at 283", &log, 283);
-    step_back(b"step back at 63", &log, 63);
-    step_back(b"step back at 0", &log, 0);
-    step_back(b"step back at 285", &log, 285);
+pub fn changed_s(q: &[u8]) {
+    changed(q, &mut s());
 }
 
-fn smallest() {
-    let s = s();
-    refusals(b"S without its last byte", part(&s, 0, 63));
-    refusals(b"S", &s);
-    refusals(b"no bytes", b"");
+pub fn changed_t(q: &[u8]) {
+    changed(q, &mut t());
 }
 
 // 2 to 5.
 fn lengths() {
-    changed(b"T", 0, b"");
-    changed(b"T with Length 60", 0, b"\x3c");
-    changed(b"T with Length 102", 0, b"\x66");
-    changed(b"T with Length 108", 0, b"\x6c");
-    changed(b"T with Length 65536", 0, b"\0\0\x01");
-    changed(b"T with Length 262144", 0, b"\0\0\x04");
-    changed(b"T with another signature", 4, b"M");
-    changed(b"T with Length2 100", 100, b"\x64");
-    changed(b"T with Length2 65536", 100, b"\0\0\x01");
-    changed(b"T with Length2 262144", 100, b"\0\0\x04");
-    changed(b"T with Length2 108", 100, b"\x6c");
+    ask(
+        Kind::ChangedT,
+        b"\
+T|0|
+T with Length 60|0|\x3c
+T with Length 102|0|\x66
+T with Length 108|0|\x6c
+T with Length 65536|0|\0\0\x01
+T with Length 262144|0|\0\0\x04
+T with another signature|4|M
+T with Length2 100|100|\x64
+T with Length2 65536|100|\0\0\x01
+T with Length2 262144|100|\0\0\x04
+T with Length2 108|100|\x6c
+",
+    );
 }
 
 // 6 to 8.
 fn numbers() {
-    changed(b"T with type 3", 24, b"\x03");
-    changed(b"T with type 16", 24, b"\x10");
-    changed(b"T with type 32", 24, b"\x20");
-    changed(b"T with type 256", 24, b"\0\x01");
-    changed(b"T with flags 1", 30, b"\x01");
-    changed(b"T with flags 0x4000", 30, b"\0\x40");
-    changed(b"T with flags 0x8000", 30, b"\0\x80");
-    changed(b"T with flags 0x8000 and no strings", 26, b"\0\0\0\0\0\x80");
-    changed(
-        b"T with flags 0x8000 and 300 strings",
-        26,
-        b"\x2c\x01\0\0\0\x80",
+    ask(
+        Kind::ChangedT,
+        b"\
+T with type 3|24|\x03
+T with type 16|24|\x10
+T with type 32|24|\x20
+T with type 256|24|\0\x01
+T with flags 1|30|\x01
+T with flags 0x4000|30|\0\x40
+T with flags 0x8000|30|\0\x80
+T with flags 0x8000 and no strings|26|\0\0\0\0\0\x80
+T with flags 0x8000 and 300 strings|26|\x2c\x01\0\0\0\x80
+T with flags 0x4000 and no strings|26|\0\0\0\0\0\x40
+T with flags 0x4000 and 300 strings|26|\x2c\x01\0\0\0\x40
+T with 257 strings|26|\x01\x01
+T with type 3 and flags 1|24|\x03\0\x01\0\0\0\x01
+T with flags 1 and 257 strings|26|\x01\x01\0\0\x01
+",
     );
-    changed(b"T with flags 0x4000 and no strings", 26, b"\0\0\0\0\0\x40");
-    changed(
-        b"T with flags 0x4000 and 300 strings",
-        26,
-        b"\x2c\x01\0\0\0\x40",
-    );
-    changed(b"T with 257 strings", 26, b"\x01\x01");
-    changed(b"T with type 3 and flags 1", 24, b"\x03\0\x01\0\0\0\x01");
-    changed(b"T with flags 1 and 257 strings", 26, b"\x01\x01\0\0\x01");
 }
 
 // 9 and 10.
 fn names_and_sids() {
-    let mut r = s();
-    put(&mut r, 57, b"\x01");
-    refusals(b"S with a computer name that has no end", &r);
-    put(&mut r, 59, b"\x01");
-    refusals(b"S with a source name that has no end", &r);
-    changed(b"T with SID offset 77", 44, b"\x4d");
-    changed(b"T with SID offset 74", 44, b"\x4a");
-    changed(b"T with a SID of 16 bytes", 40, b"\x10");
-    changed(b"T with a SID of 28 bytes", 40, b"\x1c");
-    changed(b"T with a SID of 4294967292 bytes", 40, b"\xfc\xff\xff\xff");
-    changed(b"T with SID revision 2", 76, b"\x02");
-    changed(b"T with SID count 2", 77, b"\x02");
-    changed(b"T with no SID", 40, b"\0");
+    ask(
+        Kind::ChangedS,
+        b"\
+S with a computer name that has no end|57|\x01
+S with a source name that has no end|57|\x01|59|\x01
+",
+    );
+    ask(
+        Kind::ChangedT,
+        b"\
+T with SID offset 77|44|\x4d
+T with SID offset 74|44|\x4a
+T with a SID of 16 bytes|40|\x10
+T with a SID of 28 bytes|40|\x1c
+T with a SID of 4294967292 bytes|40|\xfc\xff\xff\xff
+T with SID revision 2|76|\x02
+T with SID count 2|77|\x02
+T with no SID|40|\0
+",
+    );
 }
 
 // 11 to 13.
 fn strings_and_data() {
-    changed(b"T with string offset 90", 36, b"\x5a");
-    changed(b"T with 2 strings", 26, b"\x02");
-    changed(b"T with 5 strings", 26, b"\x05");
-    changed(b"T with no strings", 26, b"\0");
-    changed(b"T with data offset 95", 52, b"\x5f");
-    changed(b"T with data offset 4294967295", 52, b"\xff\xff\xff\xff");
-    changed(b"T with 7 bytes of data", 48, b"\x07");
-    changed(b"T with 6 bytes of data", 48, b"\x06");
-    changed(b"T with 2 bytes of data", 48, b"\x02");
-    changed(b"T with no data", 48, b"\0");
-    changed(b"T with 4294967295 bytes of data", 48, b"\xff\xff\xff\xff");
+    ask(
+        Kind::ChangedT,
+        b"\
+T with string offset 90|36|\x5a
+T with 2 strings|26|\x02
+T with 5 strings|26|\x05
+T with no strings|26|\0
+T with data offset 95|52|\x5f
+T with data offset 4294967295|52|\xff\xff\xff\xff
+T with 7 bytes of data|48|\x07
+T with 6 bytes of data|48|\x06
+T with 2 bytes of data|48|\x02
+T with no data|48|\0
+T with 4294967295 bytes of data|48|\xff\xff\xff\xff
+",
+    );
 }
 
 // S made 68 bytes long.
-fn longer_s() -> [u8; 68] {
-    let mut r = [0u8; 68];
-    put(&mut r, 0, &s());
-    put(&mut r, 0, b"\x44");
-    put(&mut r, 60, b"\0\0\0\0\x44");
-    r
+fn longer_s(r: &mut [u8]) {
+    put(r, 0, &s());
+    patch(r, b"|0|\x44|60|\0\0\0\0\x44", 1);
 }
 
+pub fn changed_longer_s(q: &[u8]) {
+    let mut r = [0u8; 68];
+    longer_s(&mut r);
+    changed(q, &mut r);
+}
+
+// The second has one string, "AB" without a zero unit before Length2.
 fn sizes() {
-    let mut r = longer_s();
-    refusals(b"S with 68 bytes", &r);
-    // one string, "AB" without a zero unit before Length2
-    put(&mut r, 26, b"\x01");
-    put(&mut r, 36, b"\x3c");
-    put(&mut r, 60, b"A\0B\0");
-    refusals(b"S with a string that has no end", &r);
-    put(&mut r, 60, b"A\0\0\0");
-    refusals(b"S with a string", &r);
+    ask(
+        Kind::LongerS,
+        b"\
+S with 68 bytes|0|\x44
+S with a string that has no end|26|\x01|36|\x3c|60|A\0B\0
+S with a string|26|\x01|36|\x3c|60|A\0\0\0
+",
+    );
 }
 
 // T with a gap of eight bytes after its names (Rule 2.12).
@@ -235,11 +255,7 @@ fn gapped() -> [u8; 108] {
     let mut r = [0xeeu8; 108];
     put(&mut r, 0, part(&t, 0, 74));
     put(&mut r, 82, part(&t, 76, 97));
-    put(&mut r, 0, b"\x6c");
-    put(&mut r, 36, b"\x5e");
-    put(&mut r, 44, b"\x52");
-    put(&mut r, 52, b"\x64");
-    put(&mut r, 104, b"\x6c\0\0\0");
+    patch(&mut r, b"|0|\x6c|36|\x5e|44|\x52|52|\x64|104|\x6c\0\0\0", 1);
     r
 }
 
@@ -249,175 +265,217 @@ fn gapless() -> [u8; 100] {
     let mut r = [0u8; 100];
     put(&mut r, 0, part(&t, 0, 74));
     put(&mut r, 74, part(&t, 76, 97));
-    put(&mut r, 0, b"\x64");
-    put(&mut r, 36, b"\x56");
-    put(&mut r, 44, b"\x4a");
-    put(&mut r, 52, b"\x5c");
-    put(&mut r, 96, b"\x64");
+    patch(&mut r, b"|0|\x64|36|\x56|44|\x4a|52|\x5c|96|\x64", 1);
     r
+}
+
+fn step_of(what: &[u8], r: &[u8]) {
+    show_step(what, record::step(Edition::Unicode, r, 0));
 }
 
 fn gaps() {
     let mut r = gapped();
-    show_step(
-        b"T with a gap of eight bytes",
-        record::step(Edition::Unicode, &r, 0),
-    );
+    step_of(b"T with a gap of eight bytes", &r);
     show_step(
         b"the same from the rear",
         record::step_back(Edition::Unicode, &r, 108),
     );
     put(&mut r, 36, b"\x5f");
     refusals(b"the same with a string offset of 95", &r);
-    show_step(
-        b"T with no gap",
-        record::step(Edition::Unicode, &gapless(), 0),
+    step_of(b"T with no gap", &gapless());
+    ask(
+        Kind::ChangedS,
+        b"\
+S with a string inside its names|26|\x01|36|\x38
+S with a string past its end|26|\x01|36|\xff
+",
     );
-    let mut s = s();
-    put(&mut s, 26, b"\x01");
-    put(&mut s, 36, b"\x38");
-    refusals(b"S with a string inside its names", &s);
-    put(&mut s, 36, b"\xff");
-    refusals(b"S with a string past its end", &s);
 }
 
-fn many(what: &[u8], r: &[u8; 580], n: usize) {
-    refusals(what, part(r, 0, n));
+// The first bytes of these, with bytes put over them.
+fn changed_part(q: &[u8], r: &mut [u8]) {
+    patch(r, q, 2);
+    refusals(what(q), part(r, 0, number(q, 1)));
 }
 
-// So many empty strings, in a record of 576 bytes or of 580.
+pub fn many(q: &[u8]) {
+    changed_part(q, &mut [0u8; 580]);
+}
+
+// So many empty strings.
 fn many_strings() {
-    let mut r = [0u8; 580];
-    put(&mut r, 0, b"\x40\x02\0\0LfLe");
-    put(&mut r, 26, b"\0\x01");
-    put(&mut r, 36, b"\x3c");
-    put(&mut r, 572, b"\x40\x02");
-    many(b"256 strings", &r, 576);
-    put(&mut r, 0, b"\x44");
-    put(&mut r, 26, b"\x01");
-    put(&mut r, 572, b"\0\0\0\0\x44\x02");
-    many(b"257 strings", &r, 580);
+    ask(
+        Kind::Many,
+        b"\
+256 strings|576|0|\x40\x02\0\0LfLe|26|\0\x01|36|\x3c|572|\x40\x02
+257 strings|580|0|\x44\x02\0\0LfLe|26|\x01\x01|36|\x3c|576|\x44\x02
+",
+    );
 }
 
-fn large(what: &[u8], r: &[u8; 61508], n: usize) {
-    refusals(what, part(r, 0, n));
+pub fn large(q: &[u8]) {
+    changed_part(q, &mut [0u8; 61508]);
 }
 
 // Empty names: 61,440 bytes of data make 61,504 bytes, and 61,441 make 61,508.
 fn most_data() {
-    let mut r = [0u8; 61508];
-    put(&mut r, 0, b"\x40\xf0\0\0LfLe");
-    put(&mut r, 48, b"\0\xf0\0\0\x3c");
-    put(&mut r, 61500, b"\x40\xf0");
-    large(b"61440 bytes of data", &r, 61504);
-    put(&mut r, 0, b"\x44");
-    put(&mut r, 48, b"\x01");
-    put(&mut r, 61500, b"\0\0\0\0\x44\xf0");
-    large(b"61441 bytes of data", &r, 61508);
+    ask(
+        Kind::Large,
+        b"\
+61440 bytes of data|61504|0|\x40\xf0\0\0LfLe|48|\0\xf0\0\0\x3c|61500|\x40\xf0
+61441 bytes of data|61508|0|\x44\xf0\0\0LfLe|48|\x01\xf0\0\0\x3c|61504|\x44\xf0
+",
+    );
 }
 
-// Where string k of the record at a place of the log lies, its refusal, and its bytes.
-fn show_string(what: &[u8], log: &[u8; 284], at: usize, k: u32) {
+// String k of the record at a place of the log, with bytes put over the log: its refusal, where it lies, and its bytes.
+pub fn string(q: &[u8]) {
+    let log = log_with(q, 3);
+    show_string(what(q), &log, number(q, 1), number32(q, 2));
+}
+
+fn show_string(what: &[u8], log: &[u8], at: usize, k: u32) {
     let p = parts::string_part(Edition::Unicode, log, at, k);
     let x = parts::string_refusal(Edition::Unicode, log, at, k);
-    line(
+    line4(
         what,
-        &[x.number as u64, x.field as u64, p.at as u64, p.len as u64],
+        x.number as u64,
+        x.field as u64,
+        p.at as u64,
+        p.len as u64,
     );
     bytes(b"  its bytes", parts::string(Edition::Unicode, log, at, k));
 }
 
 fn strings_by_number() {
-    let log = log();
-    show_string(b"string 0 of T", &log, 64, 0);
-    show_string(b"string 1 of T", &log, 64, 1);
-    show_string(b"string 0 of U", &log, 168, 0);
-    show_string(b"string 1 of U", &log, 168, 1);
-    show_string(b"string 2 of U", &log, 168, 2);
-    show_string(b"string 3 of U", &log, 168, 3);
-    show_string(b"string 4294967295 of U", &log, 168, 0xffff_ffff);
-    show_string(b"string 0 at 1", &log, 1, 0);
-    string_of_wrong_type();
-}
-
-// Apart from the others: a log that is lent so often is no longer known to have its length.
-fn string_of_wrong_type() {
-    let mut log = log();
-    put(&mut log, 88, b"\x03");
-    show_string(b"string 0 of T with type 3", &log, 64, 0);
-}
-
-// The string that starts at a place of a run of the log: its refusal, where it lies, and the place after it.
-fn show_next(what: &[u8], run: Part, place: usize) {
-    let x = strings::next_string(Edition::Unicode, &log(), run, place);
-    line(
-        what,
-        &[
-            x.refusal as u64,
-            x.string.at as u64,
-            x.string.len as u64,
-            x.next as u64,
-        ],
+    ask(
+        Kind::String,
+        b"\
+string 0 of T|64|0
+string 1 of T|64|1
+string 0 of U|168|0
+string 1 of U|168|1
+string 2 of U|168|2
+string 3 of U|168|3
+string 4294967295 of U|168|4294967295
+string 0 at 1|1|0
+string 0 of T with type 3|64|0|88|\x03
+",
     );
 }
 
-// The same of U's run, which lies from 256 to 272.
-fn next_of_u(what: &[u8], place: usize) {
-    show_next(what, Part { at: 256, len: 16 }, place);
+// A run of the log and a place in it: the refusal of the string that starts there, where it lies, and the place after it.
+pub fn next_string(q: &[u8]) {
+    let run = Part {
+        at: number(q, 1),
+        len: number(q, 2),
+    };
+    let x = strings::next_string(Edition::Unicode, &log(), run, number(q, 3));
+    line4(
+        what(q),
+        x.refusal as u64,
+        x.string.at as u64,
+        x.string.len as u64,
+        x.next as u64,
+    );
 }
 
+// U's run lies from 256 to 272; a step shows no other one.
 fn strings_in_turn() {
-    next_of_u(b"next string at 256", 256);
-    next_of_u(b"next string at 260", 260);
-    next_of_u(b"next string at 262", 262);
-    next_of_u(b"next string at 272", 272);
-    next_of_u(b"next string at 255", 255);
-    next_of_u(b"next string at 257", 257);
-    next_of_u(b"next string at 263", 263);
-    next_of_u(b"next string at 271", 271);
-    next_of_u(b"next string at the last number", 0xffff_ffff_ffff_ffff);
+    ask(
+        Kind::NextString,
+        b"\
+next string at 256|256|16|256
+next string at 260|256|16|260
+next string at 262|256|16|262
+next string at 272|256|16|272
+next string at 255|256|16|255
+next string at 257|256|16|257
+next string at 263|256|16|263
+next string at 271|256|16|271
+next string at the last number|256|16|18446744073709551615
+a run that ends in a zero unit|256|15|262
+a run to the buffer's end|256|28|272
+a run past the buffer's end|256|29|256
+a run of no bytes|60|0|60
+a run at the last number|18446744073709551615|1|18446744073709551615
+a run as long as the last number|256|18446744073709551615|256
+",
+    );
 }
 
-// A run that a step did not show.
-fn next_of_run(what: &[u8], at: usize, len: usize, place: usize) {
-    show_next(what, Part { at: at, len: len }, place);
+// The parts of the record at a place of the log.
+pub fn show_parts(q: &[u8]) {
+    let log = log();
+    show_names(what(q), &log, number(q, 1));
+    show_others(&log, number(q, 1));
 }
 
-fn runs_of_strings() {
-    let last = 0xffff_ffff_ffff_ffff;
-    next_of_run(b"a run that ends in a zero unit", 256, 15, 262);
-    next_of_run(b"a run to the buffer's end", 256, 28, 272);
-    next_of_run(b"a run past the buffer's end", 256, 29, 256);
-    next_of_run(b"a run of no bytes", 60, 0, 60);
-    next_of_run(b"a run at the last number", last, 1, last);
-    next_of_run(b"a run as long as the last number", 256, last, 256);
-}
-
-fn show_parts(what: &[u8], log: &[u8; 284], at: usize) {
+fn show_names(what: &[u8], log: &[u8], at: usize) {
     bytes(what, parts::source_name(Edition::Unicode, log, at));
     bytes(
         b"  computer name",
         parts::computer_name(Edition::Unicode, log, at),
     );
+}
+
+fn show_others(log: &[u8], at: usize) {
     bytes(b"  SID", parts::sid(Edition::Unicode, log, at));
     bytes(b"  data", parts::event_data(Edition::Unicode, log, at));
 }
 
 fn shown_parts() {
-    let log = log();
-    show_parts(b"source name of S", &log, 0);
-    show_parts(b"source name of T", &log, 64);
-    show_parts(b"source name of U", &log, 168);
-    show_parts(b"source name at 1", &log, 1);
+    ask(
+        Kind::Parts,
+        b"\
+source name of S|0
+source name of T|64
+source name of U|168
+source name at 1|1
+",
+    );
     show_record(b"no record", parts::nothing());
+}
+
+fn steps() {
+    ask(
+        Kind::Step,
+        b"\
+step at 0|0
+step at 64|64
+step at 168|168
+step at 1|1
+step at 284|284
+step at 285|285
+step at the last number|18446744073709551615
+",
+    );
+    ask(
+        Kind::StepBack,
+        b"\
+step back at 284|284
+step back at 168|168
+step back at 64|64
+step back at 283|283
+step back at 63|63
+step back at 0|0
+step back at 285|285
+",
+    );
 }
 
 pub fn reading() {
     topic(b"steps, from the front and from the rear");
     steps();
-    steps_back();
     topic(b"refusals, from the front and from the rear");
-    smallest();
+    ask(
+        Kind::StartOfS,
+        b"\
+S without its last byte|63
+S|64
+no bytes|0
+",
+    );
     lengths();
     numbers();
     names_and_sids();
@@ -426,10 +484,15 @@ pub fn reading() {
     gaps();
     many_strings();
     most_data();
-    published();
+    ask(
+        Kind::Published,
+        b"\
+the record of MS-EVEN 4.2
+the same with a well-formed SID|106|\x01\x01
+",
+    );
     topic(b"parts and strings");
     shown_parts();
     strings_by_number();
     strings_in_turn();
-    runs_of_strings();
 }

@@ -1,33 +1,34 @@
 // Reads of the log S, T, U: the status, how much was read and how much is needed, the handle, and the records
 // in the output.
 
+use crate::Kind;
+use crate::ask;
 use crate::records::log;
+use crate::records::log_with;
 use crate::records::part;
 use crate::show::bytes;
-use crate::show::line;
+use crate::show::line1;
+use crate::show::line2;
+use crate::show::output;
+use crate::show::output_start;
 use crate::show::topic;
+use crate::table::field;
+use crate::table::find;
+use crate::table::number;
+use crate::table::number32;
+use crate::table::what;
 use format::Edition;
 use libc::STDOUT_FILENO;
 use serve::Answer;
 use serve::Handle;
 use serve::Place;
-use stores::put;
-
-// Sequential reads and seeks, forwards and backwards.
-const FORWARDS: u32 = 5;
-
-const BACKWARDS: u32 = 9;
-
-const SEEK_FORWARDS: u32 = 6;
-
-const SEEK_BACKWARDS: u32 = 10;
 
 // 0 for a fresh handle; 1 and its byte position for a boundary.
 fn show_handle(h: Handle) {
     let place = h.place;
     match place {
-        Place::Fresh => line(b"  the handle", &[0]),
-        Place::Boundary(b) => line(b"  the handle", &[1, b as u64]),
+        Place::Fresh => line1(b"  the handle", 0),
+        Place::Boundary(b) => line2(b"  the handle", 1, b as u64),
     }
 }
 
@@ -35,163 +36,184 @@ fn show(what: &[u8], a: Answer, out: &[u8]) {
     io::write_all(STDOUT_FILENO, what);
     io::write_all(STDOUT_FILENO, b": status ");
     io::print_hex(STDOUT_FILENO, a.status as u64, 8);
-    line(b", read and needed", &[a.read as u64, a.needed as u64]);
+    line2(b", read and needed", a.read as u64, a.needed as u64);
     show_handle(a.handle);
-    let n = a.read;
-    let w = walk::front(Edition::Unicode, part(out, 0, n));
-    line(
-        b"  records in the output, and their refusal",
-        &[w.count as u64, w.refusal.number as u64],
-    );
-    // a record's Length, signature and number
-    bytes(b"  the output's start", part(out, 0, 12));
-    show_rest(out, n);
+    show_output(out, a.read);
 }
 
-// The four bytes after those read.
-fn show_rest(out: &[u8], n: usize) {
+fn show_output(out: &[u8], n: usize) {
+    let w = walk::front(Edition::Unicode, part(out, 0, n));
+    line2(
+        b"  records in the output, and their refusal",
+        w.count as u64,
+        w.refusal.number as u64,
+    );
+    // a record's Length, signature and number
+    output_start(out);
+    // the four bytes after those read
     if n <= 524288 {
         bytes(b"  after them", part(out, n, n + 4));
     }
 }
 
-// A read into a buffer of 300 bytes.
-fn read(what: &[u8], h: Handle, log: &[u8; 284], flags: u32, number: u32, size: usize) -> Handle {
+// The fields: where the handle stands, flags, number and size, and what is put over the log. The flags are 5 and 9 for
+// reads forwards and backwards, 6 and 10 for seeks. The output has room for 300 bytes.
+fn read(h: Handle, q: &[u8]) -> Handle {
+    let log = log_with(q, 5);
     let mut out = [0xaau8; 300];
-    let a = h.read(Edition::Unicode, log, flags, number, size, &mut out);
-    show(what, a, &out);
+    let a = h.read(
+        Edition::Unicode,
+        &log,
+        number32(q, 2),
+        number32(q, 3),
+        number(q, 4),
+        &mut out,
+    );
+    show(what(q), a, &out);
     a.handle
 }
 
-fn fresh(what: &[u8], log: &[u8; 284], flags: u32, number: u32, size: usize) {
-    read(what, Handle::fresh(0x3F), log, flags, number, size);
+// Reads with one handle after another.
+fn sequence(table: &[u8]) {
+    let mut h = Handle::fresh(0x3F);
+    let mut at = 0usize;
+    while at < table.len() {
+        let end = find(table, at, b'\n');
+        if end >= table.len() {
+            return;
+        }
+        h = read(h, part(table, at, end));
+        at = end + 1;
+    }
 }
 
-fn at(what: &[u8], b: usize, log: &[u8; 284], flags: u32, number: u32, size: usize) {
+// A handle at a boundary, or a fresh one.
+pub fn read_at(q: &[u8]) {
+    if field(q, 1).len() == 0 {
+        read(Handle::fresh(0x3F), q);
+        return;
+    }
     let h = Handle {
-        place: Place::Boundary(b),
+        place: Place::Boundary(number(q, 1)),
         types: 0x3F,
     };
-    read(what, h, log, flags, number, size);
+    read(h, q);
 }
 
 fn sequences() {
-    let log = log();
-    let h = read(b"forwards, 64", Handle::fresh(0x3F), &log, FORWARDS, 9, 64);
-    let h = read(b"then 103", h, &log, FORWARDS, 0, 103);
-    let h = read(b"then 219", h, &log, FORWARDS, 0, 219);
-    let h = read(b"then backwards, 300", h, &log, BACKWARDS, 0, 300);
-    let h = read(b"then backwards again", h, &log, BACKWARDS, 0, 300);
-    let h = read(b"then forwards, 300", h, &log, FORWARDS, 0, 300);
-    read(b"then forwards again", h, &log, FORWARDS, 0, 300);
-}
-
-fn fresh_reads() {
-    let log = log();
-    fresh(b"forwards, 167", &log, FORWARDS, 0, 167);
-    fresh(b"backwards, 220", &log, BACKWARDS, 0, 220);
-    fresh(b"backwards, 219", &log, BACKWARDS, 0, 219);
-    fresh(b"size 0", &log, FORWARDS, 0, 0);
-    fresh(b"size over the output", &log, FORWARDS, 0, 301);
-    fresh(b"flags 7", &log, 7, 0, 300);
-    fresh(b"flags 21", &log, 21, 0, 300);
-    fresh(b"flags 13", &log, 13, 0, 300);
-    fresh(b"flags 0", &log, 0, 0, 300);
-}
-
-fn seeks() {
-    let log = log();
-    fresh(b"seek 8 forwards", &log, SEEK_FORWARDS, 8, 300);
-    fresh(b"seek 8 backwards", &log, SEEK_BACKWARDS, 8, 300);
-    fresh(b"seek 8, 103", &log, SEEK_FORWARDS, 8, 103);
-    fresh(b"seek 6", &log, SEEK_FORWARDS, 6, 300);
-    at(b"seek 7 from 284", 284, &log, SEEK_FORWARDS, 7, 64);
-    at(b"seek 7 from 285", 285, &log, SEEK_FORWARDS, 7, 64);
-}
-
-fn boundaries() {
-    let log = log();
-    at(b"forwards from 284", 284, &log, FORWARDS, 0, 300);
-    at(b"forwards from 285", 285, &log, FORWARDS, 0, 300);
-    at(
-        b"size over the output, from 285",
-        285,
-        &log,
-        FORWARDS,
-        0,
-        301,
+    sequence(
+        b"\
+forwards, 64||5|9|64
+then 103||5|0|103
+then 219||5|0|219
+then backwards, 300||9|0|300
+then backwards again||9|0|300
+then forwards, 300||5|0|300
+then forwards again||5|0|300
+",
     );
-    at(b"forwards from 1", 1, &log, FORWARDS, 0, 300);
-    at(b"backwards from 283", 283, &log, BACKWARDS, 0, 300);
-    at(b"backwards from 64", 64, &log, BACKWARDS, 0, 300);
+}
+
+fn reads() {
+    ask(
+        Kind::ReadAt,
+        b"\
+forwards, 167||5|0|167
+backwards, 220||9|0|220
+backwards, 219||9|0|219
+size 0||5|0|0
+size over the output||5|0|301
+flags 7||7|0|300
+flags 21||21|0|300
+flags 13||13|0|300
+flags 0||0|0|300
+seek 8 forwards||6|8|300
+seek 8 backwards||10|8|300
+seek 8, 103||6|8|103
+seek 6||6|6|300
+seek 7 from 284|284|6|7|64
+seek 7 from 285|285|6|7|64
+forwards from 284|284|5|0|300
+forwards from 285|285|5|0|300
+size over the output, from 285|285|5|0|301
+forwards from 1|1|5|0|300
+backwards from 283|283|9|0|300
+backwards from 64|64|9|0|300
+",
+    );
 }
 
 // Another signature in T; the numbers of S and U made equal.
 fn damaged() {
-    let mut log = log();
-    put(&mut log, 68, b"M");
-    fresh(b"forwards, T damaged", &log, FORWARDS, 0, 300);
-    at(b"forwards from 64, T damaged", 64, &log, FORWARDS, 0, 300);
-    fresh(b"backwards, T damaged", &log, BACKWARDS, 0, 300);
-    fresh(b"seek 7, T damaged", &log, SEEK_FORWARDS, 7, 300);
-    fresh(b"seek 9, T damaged", &log, SEEK_FORWARDS, 9, 300);
-    put(&mut log, 68, b"L");
-    put(&mut log, 8, b"\x09");
-    fresh(b"seek 9, two of it, forwards", &log, SEEK_FORWARDS, 9, 64);
-    fresh(
-        b"seek 9, two of it, backwards",
-        &log,
-        SEEK_BACKWARDS,
-        9,
-        300,
+    ask(
+        Kind::ReadAt,
+        b"\
+forwards, T damaged||5|0|300|68|M
+forwards from 64, T damaged|64|5|0|300|68|M
+backwards, T damaged||9|0|300|68|M
+seek 7, T damaged||6|7|300|68|M
+seek 9, T damaged||6|9|300|68|M
+seek 9, two of it, forwards||6|9|64|8|\x09
+seek 9, two of it, backwards||10|9|300|8|\x09
+",
     );
 }
 
-// A read of an empty log into no bytes.
-fn empty(what: &[u8], flags: u32, number: u32) {
-    let mut out = [0u8; 0];
-    let a = Handle::fresh(0x3F).read(Edition::Unicode, b"", flags, number, 0, &mut out);
-    show(what, a, &out);
+// An empty log: flags, number and size.
+fn read_into(q: &[u8], out: &mut [u8]) {
+    let h = Handle::fresh(0x3F);
+    let a = h.read(
+        Edition::Unicode,
+        b"",
+        number32(q, 1),
+        number32(q, 2),
+        number(q, 3),
+        out,
+    );
+    show(what(q), a, out);
+}
+
+pub fn read_empty(q: &[u8]) {
+    read_into(q, &mut [0u8; 0]);
+}
+
+// Into a buffer that is longer than the largest size.
+pub fn read_large(q: &[u8]) {
+    read_into(q, &mut [0xaau8; 524289]);
 }
 
 fn empty_log() {
-    empty(b"forwards, empty log", FORWARDS, 0);
-    empty(b"backwards, empty log", BACKWARDS, 0);
-    empty(b"seek, empty log", SEEK_BACKWARDS, 7);
-}
-
-// The largest size, and one more, of an empty log.
-fn largest() {
-    let mut out = [0xaau8; 524289];
-    let a = Handle::fresh(0x3F).read(Edition::Unicode, b"", FORWARDS, 0, 524287, &mut out);
-    show(b"size 524287", a, &out);
-    let a = Handle::fresh(0x3F).read(Edition::Unicode, b"", FORWARDS, 0, 524288, &mut out);
-    show(b"size 524288", a, &out);
+    ask(
+        Kind::ReadEmpty,
+        b"\
+forwards, empty log|5|0|0
+backwards, empty log|9|0|0
+seek, empty log|10|7|0
+",
+    );
+    ask(
+        Kind::ReadLarge,
+        b"\
+size 524287|5|0|524287
+size 524288|5|0|524288
+",
+    );
 }
 
 // The whole output of a read, each way.
 fn outputs(log: &[u8; 284]) {
     let mut out = [0xaau8; 170];
-    let a = Handle::fresh(0x3F).read(
-        Edition::Unicode,
-        part(log, 0, 168),
-        BACKWARDS,
-        0,
-        170,
-        &mut out,
-    );
+    let h = Handle::fresh(0x3F);
+    let a = h.read(Edition::Unicode, part(log, 0, 168), 9, 0, 170, &mut out);
     show(b"S and T backwards", a, &out);
-    bytes(b"  the output", &out);
+    output(&out);
 }
 
 pub fn serving() {
     topic(b"reads");
     sequences();
-    fresh_reads();
-    seeks();
-    boundaries();
+    reads();
     damaged();
     empty_log();
-    largest();
     outputs(&log());
 }

@@ -1,60 +1,125 @@
 // Parts and strings: by place, by number, and in turn.
 
+use crate::Kind;
+use crate::ask;
 use crate::records::log;
 use crate::records::unicode_log;
 use crate::show::bytes;
-use crate::show::line;
+use crate::show::line4;
 use crate::show::topic;
+use crate::table::edition;
+use crate::table::number;
+use crate::table::number32;
+use crate::table::what;
 use format::Edition;
 use format::Part;
 
-fn show_parts(what: &[u8], log: &[u8; 256], at: usize) {
+// The parts of the record at a place of the log.
+pub fn show_parts(q: &[u8]) {
+    let log = log();
+    show_names(what(q), &log, number(q, 1));
+    show_others(&log, number(q, 1));
+}
+
+fn show_names(what: &[u8], log: &[u8], at: usize) {
     bytes(what, parts::source_name(Edition::Ansi, log, at));
     bytes(
         b"  computer name",
         parts::computer_name(Edition::Ansi, log, at),
     );
-    bytes(b"  SID", parts::sid(Edition::Ansi, log, at));
-    bytes(b"  data", parts::event_data(Edition::Ansi, log, at));
 }
 
-fn shown_parts() {
-    let log = log();
-    show_parts(b"source name of S", &log, 0);
-    show_parts(b"source name of T", &log, 64);
-    show_parts(b"source name of U", &log, 156);
-    show_parts(b"source name at 1", &log, 1);
+fn show_others(log: &[u8], at: usize) {
+    bytes(b"  SID", parts::sid(Edition::Ansi, log, at));
+    bytes(b"  data", parts::event_data(Edition::Ansi, log, at));
 }
 
 // Where string k of the record at a place lies, its refusal, and its bytes.
 fn show_string(what: &[u8], e: Edition, log: &[u8], at: usize, k: u32) {
     let p = parts::string_part(e, log, at, k);
     let x = parts::string_refusal(e, log, at, k);
-    line(
+    line4(
         what,
-        &[x.number as u64, x.field as u64, p.at as u64, p.len as u64],
+        x.number as u64,
+        x.field as u64,
+        p.at as u64,
+        p.len as u64,
     );
     bytes(b"  its bytes", parts::string(e, log, at, k));
 }
 
-fn string(what: &[u8], log: &[u8; 256], at: usize, k: u32) {
-    show_string(what, Edition::Ansi, log, at, k);
+// A place of the log, the string's number, and the edition.
+pub fn string(q: &[u8]) {
+    show_string(what(q), edition(q, 3), &log(), number(q, 1), number32(q, 2));
 }
 
-fn strings_by_number() {
-    let log = log();
-    string(b"string 0 of T", &log, 64, 0);
-    string(b"string 1 of T", &log, 64, 1);
-    string(b"string 0 of U", &log, 156, 0);
-    string(b"string 1 of U", &log, 156, 1);
-    string(b"string 2 of U", &log, 156, 2);
-    string(b"string 3 of U", &log, 156, 3);
-    string(b"string 4294967295 of U", &log, 156, 0xffff_ffff);
-    string(b"string 0 at 1", &log, 1, 0);
+// Where the run starts, its length, a place, and the edition: the refusal of the string that starts there, where it lies,
+// and the place after it.
+pub fn next_string(q: &[u8]) {
+    let run = Part {
+        at: number(q, 1),
+        len: number(q, 2),
+    };
+    let x = strings::next_string(edition(q, 4), &log(), run, number(q, 3));
+    line4(
+        what(q),
+        x.refusal as u64,
+        x.string.at as u64,
+        x.string.len as u64,
+        x.next as u64,
+    );
 }
 
-fn other_edition() {
-    show_string(b"string 0 of T in Unicode", Edition::Unicode, &log(), 64, 0);
+// U's run lies from 236 to 244; a step shows no other one.
+fn strings_in_turn() {
+    ask(
+        Kind::NextString,
+        b"\
+next string at 236|236|8|236
+next string at 238|236|8|238
+next string at 239|236|8|239
+next string at 244|236|8|244
+next string at 235|236|8|235
+next string at 237|236|8|237
+next string at 240|236|8|240
+next string at 243|236|8|243
+next string at the last number|236|8|18446744073709551615
+a run that ends before the zero byte|236|7|239
+a run that ends after it|239|5|239
+a run to the buffer's end|236|20|244
+a run past the buffer's end|236|21|236
+a run of no bytes|60|0|60
+a run at the last number|18446744073709551615|1|18446744073709551615
+next string at 239 in Unicode|236|8|239|Unicode
+",
+    );
+}
+
+pub fn parted() {
+    topic(b"parts and strings");
+    ask(
+        Kind::Parts,
+        b"\
+source name of S|0
+source name of T|64
+source name of U|156
+source name at 1|1
+",
+    );
+    ask(
+        Kind::String,
+        b"\
+string 0 of T|64|0
+string 1 of T|64|1
+string 0 of U|156|0
+string 1 of U|156|1
+string 2 of U|156|2
+string 3 of U|156|3
+string 4294967295 of U|156|4294967295
+string 0 at 1|1|0
+string 0 of T in Unicode|64|0|Unicode
+",
+    );
     show_string(
         b"string 0 of T of Unicode",
         Edition::Ansi,
@@ -62,65 +127,5 @@ fn other_edition() {
         64,
         0,
     );
-}
-
-// The string that starts at a place of a run of the log: its refusal, where it lies, and the place after it.
-fn show_next(what: &[u8], e: Edition, run: Part, place: usize) {
-    let x = strings::next_string(e, &log(), run, place);
-    line(
-        what,
-        &[
-            x.refusal as u64,
-            x.string.at as u64,
-            x.string.len as u64,
-            x.next as u64,
-        ],
-    );
-}
-
-// The same of U's run, which lies from 236 to 244.
-fn next_of_u(what: &[u8], place: usize) {
-    show_next(what, Edition::Ansi, Part { at: 236, len: 8 }, place);
-}
-
-fn strings_in_turn() {
-    next_of_u(b"next string at 236", 236);
-    next_of_u(b"next string at 238", 238);
-    next_of_u(b"next string at 239", 239);
-    next_of_u(b"next string at 244", 244);
-    next_of_u(b"next string at 235", 235);
-    next_of_u(b"next string at 237", 237);
-    next_of_u(b"next string at 240", 240);
-    next_of_u(b"next string at 243", 243);
-    next_of_u(b"next string at the last number", 0xffff_ffff_ffff_ffff);
-}
-
-// A run that a step did not show.
-fn next_of_run(what: &[u8], at: usize, len: usize, place: usize) {
-    show_next(what, Edition::Ansi, Part { at: at, len: len }, place);
-}
-
-fn runs_of_strings() {
-    let last = 0xffff_ffff_ffff_ffff;
-    next_of_run(b"a run that ends before the zero byte", 236, 7, 239);
-    next_of_run(b"a run that ends after it", 239, 5, 239);
-    next_of_run(b"a run to the buffer's end", 236, 20, 244);
-    next_of_run(b"a run past the buffer's end", 236, 21, 236);
-    next_of_run(b"a run of no bytes", 60, 0, 60);
-    next_of_run(b"a run at the last number", last, 1, last);
-    show_next(
-        b"next string at 239 in Unicode",
-        Edition::Unicode,
-        Part { at: 236, len: 8 },
-        239,
-    );
-}
-
-pub fn parted() {
-    topic(b"parts and strings");
-    shown_parts();
-    strings_by_number();
-    other_edition();
     strings_in_turn();
-    runs_of_strings();
 }

@@ -1,83 +1,129 @@
 // Units, texts and strings (Rules 3.2 to 3.8). In ANSI the search passes blocks of 16 bytes, then of 4, and then goes
 // byte by byte: a zero byte is asked for at each place around them.
 
+use crate::Kind;
+use crate::ask;
 use crate::records::part;
 use crate::show::end;
-use crate::show::line;
+use crate::show::line2;
+use crate::show::line4;
 use crate::show::number;
 use crate::show::start;
 use crate::show::topic;
-use content::text::Found;
-use content::text::ansi_len;
-use content::text::strings_end;
-use content::text::text_len;
-use content::text::unicode_len;
-use content::text::width;
+use crate::table::field;
+use crate::table::fields;
+use crate::table::nth32;
+use crate::table::number32;
+use crate::table::second;
+use crate::table::what;
 use format::Edition;
 use stores::put;
+use text::Found;
+use text::ansi_len;
+use text::strings_end;
+use text::text_len;
+use text::unicode_len;
+use text::width;
 
 // A text's length in ANSI and in Unicode, each by both calls.
-fn lengths(what: &[u8], t: &[u8]) {
-    line(
-        what,
-        &[
-            text_len(Edition::Ansi, t) as u64,
-            ansi_len(t) as u64,
-            text_len(Edition::Unicode, t) as u64,
-            unicode_len(t) as u64,
-        ],
+pub fn lengths(q: &[u8]) {
+    let t = field(q, 1);
+    line4(
+        what(q),
+        text_len(Edition::Ansi, t) as u64,
+        ansi_len(t) as u64,
+        text_len(Edition::Unicode, t) as u64,
+        unicode_len(t) as u64,
     );
 }
 
 fn short_texts() {
-    line(
+    line2(
         b"bytes of a unit in Unicode and in ANSI",
-        &[width(Edition::Unicode) as u64, width(Edition::Ansi) as u64],
+        width(Edition::Unicode) as u64,
+        width(Edition::Ansi) as u64,
     );
-    lengths(b"the text of no bytes", b"");
-    lengths(b"of a zero byte", b"\0");
-    lengths(b"of A", b"A");
-    lengths(b"of A and a zero byte", b"A\0");
-    lengths(b"of AB in Unicode", b"A\0B\0\0\0");
-    lengths(b"of ABC, a zero byte, D", b"ABC\0D");
-    lengths(b"of a zero byte before A", b"\0A\0");
+    ask(
+        Kind::Lengths,
+        b"\
+the text of no bytes|
+of a zero byte|\0
+of A|A
+of A and a zero byte|A\0
+of AB in Unicode|A\0B\0\0\0
+of ABC, a zero byte, D|ABC\0D
+of a zero byte before A|\0A\0
+of eight bytes, the first 0x80, the third zero|\x80A\0AAAAA
+of four units, the first 0x8000, the third zero|\0\x80A\0\0\0AA
+",
+    );
 }
 
-// A text of so many bytes with a zero byte at a place; with none where the place is not before its end.
-fn found(n: usize, at: usize) -> u64 {
+// A text of so many bytes with a zero byte at a place, by the search of texts or by that of names; with none where the
+// place is not before its end.
+fn found(name: bool, n: usize, at: usize) -> u64 {
     let mut s = [1u8; 40];
     put(&mut s, at, b"\0");
+    if name {
+        return ansi_len(part(&s, 0, n)) as u64;
+    }
     text_len(Edition::Ansi, part(&s, 0, n)) as u64
 }
 
 // Its length with a zero byte at each place, and with none.
-fn zero_at_each_place(n: usize) {
+fn zero_at_each_place(name: bool, n: usize) {
     start(b"  zero bytes at each place");
     let mut at = 0;
     while at < n {
-        number(found(n, at));
+        number(found(name, n, at));
         at += 1;
     }
-    number(found(n, n));
+    number(found(name, n, n));
     end();
 }
 
-fn long_texts() {
+fn texts_of_each_length(name: bool) {
     let mut n = 0;
     while n < 41 {
-        zero_at_each_place(n);
+        zero_at_each_place(name, n);
         n += 1;
     }
 }
 
-// Where so many strings end, of 40 bytes with two zero bytes; 99 where there are not so many.
-fn end_of(first: usize, second: usize, count: u32) -> u64 {
-    let mut s = [1u8; 40];
-    put(&mut s, first, b"\0");
-    put(&mut s, second, b"\0");
-    end_in(&s, count)
+// 300 bytes with a zero byte at a place, by both searches.
+pub fn long_lengths(q: &[u8]) {
+    let mut s = [1u8; 300];
+    put(&mut s, crate::table::number(q, 1), b"\0");
+    line2(
+        what(q),
+        text_len(Edition::Ansi, &s) as u64,
+        ansi_len(&s) as u64,
+    );
 }
 
+fn long_texts() {
+    texts_of_each_length(false);
+    texts_of_each_length(true);
+    ask(
+        Kind::LongLengths,
+        b"\
+300 bytes, zero at 30|30
+at 55|55
+at 56|56
+at 63|63
+at 88|88
+at 159|159
+at 160|160
+at 161|161
+at 287|287
+at 288|288
+at 299|299
+nowhere|300
+",
+    );
+}
+
+// Where so many strings end; 99 where there are not so many.
 fn end_in(s: &[u8], count: u32) -> u64 {
     match strings_end(Edition::Ansi, s, count) {
         Found::At(n) => n as u64,
@@ -85,9 +131,35 @@ fn end_in(s: &[u8], count: u32) -> u64 {
     }
 }
 
-// A zero byte at a place, and another one at each place.
-fn ends(what: &[u8], first: usize, count: u32) {
-    start(what);
+// Each field is a number of strings, and bytes.
+pub fn ends_of(q: &[u8]) {
+    start(what(q));
+    let n = fields(q);
+    let mut k = 0usize;
+    while k < n {
+        k += 1;
+        number(end_of_field(field(q, k)));
+    }
+    end();
+}
+
+fn end_of_field(t: &[u8]) -> u64 {
+    end_in(second(t), nth32(t, 0))
+}
+
+// The same of 40 bytes with two zero bytes.
+fn end_of(first: usize, second: usize, count: u32) -> u64 {
+    let mut s = [1u8; 40];
+    put(&mut s, first, b"\0");
+    put(&mut s, second, b"\0");
+    end_in(&s, count)
+}
+
+// A zero byte at a place, and another one at each place; and a number of strings.
+pub fn ends(q: &[u8]) {
+    start(what(q));
+    let first = crate::table::number(q, 1);
+    let count = number32(q, 2);
     let mut at = 0;
     while at < 40 {
         number(end_of(first, at, count));
@@ -97,31 +169,29 @@ fn ends(what: &[u8], first: usize, count: u32) {
 }
 
 fn strings() {
-    line(
-        b"ends of 0 to 4 strings",
-        &[
-            end_in(b"A\0\0BB\0C", 0),
-            end_in(b"A\0\0BB\0C", 1),
-            end_in(b"A\0\0BB\0C", 2),
-            end_in(b"A\0\0BB\0C", 3),
-            end_in(b"A\0\0BB\0C", 4),
-        ],
+    ask(
+        Kind::EndsOf,
+        b"\
+ends of 0 to 4 strings|0,A\0\0BB\0C|1,A\0\0BB\0C|2,A\0\0BB\0C|3,A\0\0BB\0C|4,A\0\0BB\0C
+a string of no bytes, of one, and one that has no end|1,|1,\0|1,ABC
+",
     );
-    line(
-        b"a string of no bytes, of one, and one that has no end",
-        &[end_in(b"", 1), end_in(b"\0", 1), end_in(b"ABC", 1)],
+    ask(
+        Kind::Ends,
+        b"\
+one string, a zero byte at 39 and at each place|39|1
+two strings, a zero byte at 0 and at each place|0|2
+two strings, at 2|2|2
+two strings, at 3|3|2
+two strings, at 4|4|2
+two strings, at 15|15|2
+two strings, at 16|16|2
+two strings, at 19|19|2
+two strings, at 20|20|2
+two strings, at 36|36|2
+three strings, at 5|5|3
+",
     );
-    ends(b"one string, a zero byte at 39 and at each place", 39, 1);
-    ends(b"two strings, a zero byte at 0 and at each place", 0, 2);
-    ends(b"two strings, at 2", 2, 2);
-    ends(b"two strings, at 3", 3, 2);
-    ends(b"two strings, at 4", 4, 2);
-    ends(b"two strings, at 15", 15, 2);
-    ends(b"two strings, at 16", 16, 2);
-    ends(b"two strings, at 19", 19, 2);
-    ends(b"two strings, at 20", 20, 2);
-    ends(b"two strings, at 36", 36, 2);
-    ends(b"three strings, at 5", 5, 3);
 }
 
 pub fn texts() {

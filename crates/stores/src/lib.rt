@@ -23,6 +23,9 @@ fn copy(out: &mut [u8], at: usize, t: &[u8]) -> usize
 // How many bytes the compiler's copying loop moves at once.
 const BLOCK: usize = 32;
 
+// From so many bytes on it pays to start at a multiple of a block.
+const LONG: usize = 256;
+
 // The same by way of b. All bytes are read before the first is written, so that the compiler moves them at
 // once: it need not ask whether the output lies over t.
 fn copy_through(out: &mut [u8], at: usize, t: &[u8], b: &mut [u8]) -> usize
@@ -69,18 +72,41 @@ fn copy_short(out: &mut [u8], at: usize, t: &[u8]) -> usize
     copy(out, at, t)
 }
 
-// All of t, as whole blocks and then the last block again, up to the end: no rest goes byte by byte.
+// A block or more, as whole blocks and then the last block again, up to the end: no rest goes byte by byte.
+fn copy_whole(out: &mut [u8], at: usize, t: &[u8]) -> usize
+    requires { ⌜ (32 ≤ length (now t)) × (at + length (now t) ≤ length (now out)) ⌝ }
+    ensures { λ r. ⌜ Stored (now (out .entry)) at (now (t .entry)) r (now (out .exit)) ⌝ }
+{
+    let n = t.len();
+    let whole = n - n % BLOCK;
+    copy(out, at, &t[..whole]);
+    copy_block(out, at, t, n - BLOCK, BLOCK)
+}
+
+// The same with all blocks but the first and the last at places that are multiples of a block: where the output
+// starts at such an address, none of them lies across two lines of the processor's cache.
+fn copy_long(out: &mut [u8], at: usize, t: &[u8]) -> usize
+    requires { ⌜ (64 ≤ length (now t)) × (at + length (now t) ≤ length (now out)) ⌝ }
+    ensures { λ r. ⌜ Stored (now (out .entry)) at (now (t .entry)) r (now (out .exit)) ⌝ }
+{
+    let n = t.len();
+    let skip = BLOCK - at % BLOCK;
+    copy_block(out, at, t, 0, BLOCK);
+    copy_whole(out, at + skip, &t[skip..n])
+}
+
+// All of t.
 fn copy_blocks(out: &mut [u8], at: usize, t: &[u8]) -> usize
     requires { ⌜ at + length (now t) ≤ length (now out) ⌝ }
     ensures { λ r. ⌜ Stored (now (out .entry)) at (now (t .entry)) r (now (out .exit)) ⌝ }
 {
-    let n = t.len();
-    if n < BLOCK {
+    if t.len() < BLOCK {
         return copy_short(out, at, t);
     }
-    let whole = n - n % BLOCK;
-    copy(out, at, &t[..whole]);
-    copy_block(out, at, t, n - BLOCK, BLOCK)
+    if t.len() < LONG {
+        return copy_whole(out, at, t);
+    }
+    copy_long(out, at, t)
 }
 
 // Puts the bytes of t over the output from a place on, and answers the place after them. Where they do

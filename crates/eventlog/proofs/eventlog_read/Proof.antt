@@ -1,13 +1,9 @@
 -- The new handle is answered, or the caller's own. Assumes nothing.
 use mathlib.Core.Path.{ap, _∙_}
 use borrow.Author.Needs.{needs}
-use Rattle.format.specs.declared.Edition.{Edition}
-use Rattle.format.specs.Text.{width}
-use Rattle.serve.specs.declared.Place.{Place}
-use Rattle.serve.specs.Serving.{serving}
 use Rattle.eventlog.specs.declared.ReadHandle.{ReadHandle}
-use Rattle.eventlog.specs.Interface.{handleOf, readOutcome, answered}
-use Rattle.eventlog.proofs.Read.{read-done, read-refused}
+use Rattle.eventlog.specs.Interface.{readOutcome}
+use Rattle.eventlog.proofs.Read.{read-done, read-refused, read-in}
 use Rattle.eventlog.proofs.eventlog_read.Statement.{statement}
 use Rattle.eventlog.proofs.eventlog_read.Tie as tie
 
@@ -18,18 +14,14 @@ returns c =
     let out = r .read .last .1 .1 .1 .1 .1 .1 .0 in
     ap (λ (h : ReadHandle). readOutcome (record { status = 0; read = r .read .result .read; needed = r .read .result .needed; handle = h }) out) (c .read-handle .ensures)
     ∙ read-done (a .h) (r .read .result) out (c .before .before .if1 .taken)
-    ∙ ap (answered (a .h)) (r .read .ensures)
-    ∙ ap (λ (p : Place). answered (a .h) (serving (width (r .before .before .edition-of .result)) (a .log .now) (record { place = p; types = a .h .types }) (a .flags) (a .number) (a .size) (a .out .now))) (r .before .before .before .place-of .ensures)
-    ∙ ap (λ (e : Edition). answered (a .h) (serving (width e) (a .log .now) (handleOf (a .h)) (a .flags) (a .number) (a .size) (a .out .now))) (r .before .before .edition-of .ensures)
+    ∙ read-in (a .edition) (a .h) (a .log .now) (a .flags) (a .number) (a .size) (a .out .now) (r .before .before .edition-of .ensures) (r .before .before .before .place-of .ensures) (r .read .ensures)
 
 returns-2 : tie.Need-returns-2
 returns-2 c =
     let r = c .before .before .before .before in
     let a = r .before .before .before .before .before .before .args in
     read-refused (a .h) (r .read .result) (r .read .last .1 .1 .1 .1 .1 .1 .0) (c .if1 .left)
-    ∙ ap (answered (a .h)) (r .read .ensures)
-    ∙ ap (λ (p : Place). answered (a .h) (serving (width (r .before .before .edition-of .result)) (a .log .now) (record { place = p; types = a .h .types }) (a .flags) (a .number) (a .size) (a .out .now))) (r .before .before .before .place-of .ensures)
-    ∙ ap (λ (e : Edition). answered (a .h) (serving (width e) (a .log .now) (handleOf (a .h)) (a .flags) (a .number) (a .size) (a .out .now))) (r .before .before .edition-of .ensures)
+    ∙ read-in (a .edition) (a .h) (a .log .now) (a .flags) (a .number) (a .size) (a .out .now) (r .before .before .edition-of .ensures) (r .before .before .before .place-of .ensures) (r .read .ensures)
 
 pub eventlog-read-spec : {M : Type 1} → statement M
 eventlog-read-spec =

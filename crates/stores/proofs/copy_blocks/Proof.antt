@@ -1,30 +1,19 @@
--- What is left over the whole blocks lies in the last one. Assumes nothing.
-use mathlib.Core.Path.{sym}
-use Prim.Native.Nat.{ℕ, _-_, _%_}
+-- Each way has as many bytes as it asks for. Assumes nothing.
 use native.Mathlib.Omega.{arith}
 use borrow.Author.Needs.{needs}
-use lib.ListN.{length}
-use lib.Seq.{length-take-le}
-use Rattle.stores.proofs.Blocks.{stored-last}
 use Rattle.stores.proofs.copy_blocks.Statement.{statement}
 use Rattle.stores.proofs.copy_blocks.Tie as tie
-
-slice-aggregate-copy : tie.Need-slice-aggregate-copy
-slice-aggregate-copy c = sym (length-take-le _ _ (omega arith))
-
-copy-requires : tie.Need-copy-requires
-copy-requires c κs =
-    let t = c .before .before .before .before .before .args .t .now in
-    omega (arith, length-take-le (length t - length t % 32) t (omega arith))
-
-returns-2 : tie.Need-returns-2
-returns-2 c =
-    let x = c .before .before .before .before .before .before in
-    let t = x .before .before .before .before .before .before .args .t .now in
-    stored-last (length t - length t % 32) (x .copy .ensures) (c .before .before .copy-block .ensures)
-    (omega arith) (omega arith) (omega arith) (omega arith)
 
 pub copy-blocks-spec : {M : Type 1} → statement M
 copy-blocks-spec =
     tie.close
-    (tie.spec (λ c κs. search needs) (λ c. search needs) (λ c. search needs) (λ c. search needs) slice-aggregate-copy copy-requires (λ c κs. search needs) (λ c. search needs) returns-2)
+    (tie.spec
+    (λ c κs. omega arith)
+    (λ c. search needs)
+    (λ c. search needs)
+    (λ c κs. omega arith)
+    (λ c. search needs)
+    (λ c. search needs)
+    (λ c κs. omega arith)
+    (λ c. search needs)
+    (λ c. search needs))

@@ -1,0 +1,10 @@
+-- The room is at most the array's length. Assumes nothing.
+use mathlib.Core.Path.{sym}
+use native.Mathlib.Omega.{arith}
+use borrow.Author.Needs.{needs}
+use lib.Seq.{length-take-le}
+use Rattle.samples.proofs.listings.decimal.Statement.{statement}
+use Rattle.samples.proofs.listings.decimal.Tie as tie
+
+pub decimal-spec : {M : Type 1} → statement M
+decimal-spec = tie.close (tie.spec (λ c κs. search needs) (λ c. search needs) (λ c. sym (length-take-le _ _ (omega arith))) (λ c κs. search needs) (λ c. search needs) (λ c. search needs))

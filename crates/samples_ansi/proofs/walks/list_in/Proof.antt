@@ -1,0 +1,10 @@
+-- The room is at most the output. Assumes nothing.
+use mathlib.Core.Path.{sym}
+use native.Mathlib.Omega.{arith}
+use borrow.Author.Needs.{needs}
+use lib.Seq.{length-take-le}
+use Rattle.samples_ansi.proofs.walks.list_in.Statement.{statement}
+use Rattle.samples_ansi.proofs.walks.list_in.Tie as tie
+
+pub list-in-spec : {M : Type 1} → statement M
+list-in-spec = tie.close (tie.spec (λ c κs. search needs) (λ c κs. search needs) (λ c κs. search needs) (λ c κs. search needs) (λ c κs. search needs) (λ c. search needs) (λ c. sym (length-take-le _ _ (omega arith))) (λ c κs. search needs) (λ c. search needs) (λ c. search needs) (λ c. search needs))
