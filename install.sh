@@ -1,7 +1,7 @@
 #!/usr/bin/env bash
 # Installs the header, the static library and its pkg-config file under a folder:
 #     bash install.sh PREFIX
-# The library has to be built before: rt staticlib eventlog
+# The library has to be built before: bash library.sh
 set -euo pipefail
 if [ $# -ne 1 ]; then
     echo "usage: bash install.sh PREFIX" >&2
@@ -11,7 +11,7 @@ prefix=$(realpath -m "$1")
 cd "$(dirname "$0")"
 library=target/staticlib/libeventlog.a
 if [ ! -f "$library" ]; then
-    echo "install: $library is missing: run \`rt staticlib eventlog\` first" >&2
+    echo "install: $library is missing: run \`bash library.sh\` first" >&2
     exit 1
 fi
 version=$(sed -n 's/^#define EVENTLOG_VERSION "\(.*\)"$/\1/p' include/eventlog.h)

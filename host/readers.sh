@@ -7,7 +7,7 @@ if ! command -v evtexport >/dev/null || ! command -v ndrdump >/dev/null; then
     apt-get update --quiet
     apt-get install --yes libevt-utils samba-testsuite
 fi
-(cd .. && rt staticlib eventlog >/dev/null)
+bash ../library.sh
 room=$(mktemp -d)
 trap 'rm -rf "$room"' EXIT
 cargo run --release --offline --quiet --bin readers "$room"

@@ -5,10 +5,7 @@ set -euo pipefail
 cd "$(dirname "$0")/.."
 room=$(mktemp -d)
 trap 'rm -rf "$room"' EXIT
-if ! rt staticlib eventlog >"$room/rt" 2>&1; then
-    cat "$room/rt" >&2
-    exit 1
-fi
+bash library.sh
 library=$PWD/target/staticlib/libeventlog.a
 warnings=(-Wall -Wextra -Wpedantic -Wconversion -Wshadow -Wcast-qual -Wundef -Werror)
 

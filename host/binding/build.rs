@@ -16,7 +16,7 @@ fn main() {
         println!("cargo::error=libeventlog.a is for x86-64 Linux, not for {arch} {os}");
     } else if !archive.is_file() {
         let missing = archive.display();
-        println!("cargo::error={missing} is missing: run `rt staticlib eventlog` first");
+        println!("cargo::error={missing} is missing: run `bash library.sh` first");
     } else {
         println!("cargo::rustc-link-search=native={}", folder.display());
         println!("cargo::rustc-link-lib=static=eventlog");

@@ -20,8 +20,21 @@ use crate::table::field;
 use crate::table::number;
 use crate::table::number32;
 use crate::table::what;
-use eventlog::ReadHandle;
-use eventlog::Stepped;
+use eventlog_batches::eventlog_listing;
+use eventlog_batches::eventlog_walk;
+use eventlog_batches::eventlog_walk_back;
+use eventlog_records::Stepped;
+use eventlog_records::eventlog_next_string;
+use eventlog_records::eventlog_refusal;
+use eventlog_records::eventlog_step;
+use eventlog_records::eventlog_step_back;
+use eventlog_records::eventlog_string;
+use eventlog_records::eventlog_string_refusal;
+use eventlog_serving::ReadHandle;
+use eventlog_serving::eventlog_fresh;
+use eventlog_serving::eventlog_read;
+use eventlog_writing::eventlog_append;
+use eventlog_writing::eventlog_write;
 use format::Part;
 use stores::put;
 
@@ -32,18 +45,15 @@ fn stepped(what: &[u8], x: Stepped) {
 }
 
 pub fn step(q: &[u8]) {
-    stepped(what(q), eventlog::eventlog_step(0, &log(), number(q, 1)));
+    stepped(what(q), eventlog_step(0, &log(), number(q, 1)));
 }
 
 pub fn step_back(q: &[u8]) {
-    stepped(
-        what(q),
-        eventlog::eventlog_step_back(0, &log(), number(q, 1)),
-    );
+    stepped(what(q), eventlog_step_back(0, &log(), number(q, 1)));
 }
 
 pub fn refusal(q: &[u8]) {
-    let k = eventlog::eventlog_refusal(0, &log(), number(q, 1));
+    let k = eventlog_refusal(0, &log(), number(q, 1));
     line2(what(q), k.number as u64, k.field as u64);
 }
 
@@ -78,8 +88,8 @@ pub fn string(q: &[u8]) {
 }
 
 fn show_string(what: &[u8], log: &[u8; 284], at: usize, k: u32) {
-    let p = eventlog::eventlog_string(0, log, at, k);
-    let x = eventlog::eventlog_string_refusal(0, log, at, k);
+    let p = eventlog_string(0, log, at, k);
+    let x = eventlog_string_refusal(0, log, at, k);
     line4(
         what,
         x.number as u64,
@@ -92,7 +102,7 @@ fn show_string(what: &[u8], log: &[u8; 284], at: usize, k: u32) {
 // A place in the run from 256 to 262.
 pub fn next_string(q: &[u8]) {
     let run = Part { at: 256, len: 6 };
-    let x = eventlog::eventlog_next_string(0, &log(), run, number(q, 1));
+    let x = eventlog_next_string(0, &log(), run, number(q, 1));
     line4(
         what(q),
         x.refusal as u64,
@@ -129,8 +139,8 @@ pub fn walks(q: &[u8]) {
 }
 
 fn show_walks(what: &[u8], s: &[u8]) {
-    let w = eventlog::eventlog_walk(0, s);
-    let b = eventlog::eventlog_walk_back(0, s);
+    let w = eventlog_walk(0, s);
+    let b = eventlog_walk_back(0, s);
     line(
         what,
         &[
@@ -148,7 +158,7 @@ fn show_walks(what: &[u8], s: &[u8]) {
 
 // An event: its numbers, source, computer, SID, strings and data.
 fn write(q: &[u8], out: &mut [u8]) {
-    let w = eventlog::eventlog_write(
+    let w = eventlog_write(
         0,
         numbers(field(q, 1)),
         field(q, 2),
@@ -163,7 +173,7 @@ fn write(q: &[u8], out: &mut [u8]) {
 }
 
 fn append(q: &[u8], log: &mut [u8]) {
-    let a = eventlog::eventlog_append(
+    let a = eventlog_append(
         0,
         log,
         88,
@@ -197,7 +207,7 @@ fn writes() {
 // The fields: flags, number and size.
 fn read(h: ReadHandle, q: &[u8]) -> ReadHandle {
     let mut out = [0xaau8; 300];
-    let a = eventlog::eventlog_read(
+    let a = eventlog_read(
         0,
         h,
         &log(),
@@ -217,13 +227,13 @@ fn show_handle(what: &[u8], h: ReadHandle) {
 }
 
 fn reads() {
-    let h = eventlog::eventlog_fresh(63);
+    let h = eventlog_fresh(63);
     show_handle(b"fresh", h);
     let h = read(h, b"backwards, 116|9|0|116");
     let h = read(h, b"forwards, 115|5|0|115");
     let h = read(h, b"forwards, 116|5|0|116");
     read(h, b"forwards again|5|0|116");
-    read(eventlog::eventlog_fresh(63), b"seek 8|6|8|104");
+    read(eventlog_fresh(63), b"seek 8|6|8|104");
 }
 
 fn odd_handles() {
@@ -251,7 +261,7 @@ pub fn listing(q: &[u8]) {
 }
 
 fn list_into(what: &[u8], log: &[u8; 284], out: &mut [u8]) {
-    let w = eventlog::eventlog_listing(0, log, out);
+    let w = eventlog_listing(0, log, out);
     line2(what, w.refusal as u64, w.length as u64);
     output(out);
 }

@@ -18,8 +18,21 @@ use crate::table::field;
 use crate::table::number32;
 use crate::table::what;
 use crate::walks::stopped;
-use eventlog::ReadHandle;
-use eventlog::Stepped;
+use eventlog_batches::eventlog_listing;
+use eventlog_batches::eventlog_walk;
+use eventlog_batches::eventlog_walk_back;
+use eventlog_records::Stepped;
+use eventlog_records::eventlog_next_string;
+use eventlog_records::eventlog_refusal;
+use eventlog_records::eventlog_step;
+use eventlog_records::eventlog_step_back;
+use eventlog_records::eventlog_string;
+use eventlog_records::eventlog_string_refusal;
+use eventlog_serving::ReadHandle;
+use eventlog_serving::eventlog_fresh;
+use eventlog_serving::eventlog_read;
+use eventlog_writing::eventlog_append;
+use eventlog_writing::eventlog_write;
 use format::Part;
 use stores::put;
 
@@ -31,19 +44,16 @@ fn stepped(what: &[u8], x: Stepped) {
 
 // T, in the middle of the log.
 fn steps(e: u32, log: &[u8; 256]) {
-    stepped(b"step at 64", eventlog::eventlog_step(e, log, 64));
-    stepped(
-        b"step back at 156",
-        eventlog::eventlog_step_back(e, log, 156),
-    );
-    let k = eventlog::eventlog_refusal(e, log, 64);
+    stepped(b"step at 64", eventlog_step(e, log, 64));
+    stepped(b"step back at 156", eventlog_step_back(e, log, 156));
+    let k = eventlog_refusal(e, log, 64);
     line2(b"refusal at 64", k.number as u64, k.field as u64);
 }
 
 // String 2 of U, by number.
 fn string(e: u32, log: &[u8; 256]) {
-    let p = eventlog::eventlog_string(e, log, 156, 2);
-    let k = eventlog::eventlog_string_refusal(e, log, 156, 2);
+    let p = eventlog_string(e, log, 156, 2);
+    let k = eventlog_string_refusal(e, log, 156, 2);
     line4(
         b"string 2 of U",
         k.number as u64,
@@ -55,7 +65,7 @@ fn string(e: u32, log: &[u8; 256]) {
 
 // The same in turn.
 fn next_string(e: u32, log: &[u8; 256]) {
-    let x = eventlog::eventlog_next_string(e, log, Part { at: 236, len: 8 }, 239);
+    let x = eventlog_next_string(e, log, Part { at: 236, len: 8 }, 239);
     line4(
         b"next string at 239",
         x.refusal as u64,
@@ -66,13 +76,13 @@ fn next_string(e: u32, log: &[u8; 256]) {
 }
 
 fn walks(e: u32, log: &[u8; 256]) {
-    stopped(b"walk", eventlog::eventlog_walk(e, log));
-    stopped(b"walk back", eventlog::eventlog_walk_back(e, log));
+    stopped(b"walk", eventlog_walk(e, log));
+    stopped(b"walk back", eventlog_walk_back(e, log));
 }
 
 // The edition, and an event: its numbers, source, computer, SID, strings and data.
 fn write(e: u32, q: &[u8], out: &mut [u8]) {
-    let w = eventlog::eventlog_write(
+    let w = eventlog_write(
         e,
         numbers(field(q, 1)),
         field(q, 2),
@@ -89,7 +99,7 @@ fn write(e: u32, q: &[u8], out: &mut [u8]) {
 // An event with no parts, behind U.
 fn append(e: u32, log: &mut [u8]) {
     let none: &[u8] = b"";
-    let a = eventlog::eventlog_append(e, log, 256, unnumbered(b",1"), none, none, none, none, none);
+    let a = eventlog_append(e, log, 256, unnumbered(b",1"), none, none, none, none, none);
     let k = a.refusal;
     line3(b"append", k.number as u64, k.field as u64, a.used as u64);
 }
@@ -102,7 +112,7 @@ fn appends(e: u32, log: &mut [u8], s: &[u8]) {
 
 fn read(what: &[u8], e: u32, h: ReadHandle, log: &[u8; 256], flags: u32) -> ReadHandle {
     let mut out = [0xaau8; 256];
-    let a = eventlog::eventlog_read(e, h, log, flags, 8, 256, &mut out);
+    let a = eventlog_read(e, h, log, flags, 8, 256, &mut out);
     line3(what, a.status as u64, a.read as u64, a.needed as u64);
     let h = a.handle;
     line2(b"  the handle", h.kind as u64, h.boundary as u64);
@@ -111,14 +121,14 @@ fn read(what: &[u8], e: u32, h: ReadHandle, log: &[u8; 256], flags: u32) -> Read
 }
 
 fn reads(e: u32, log: &[u8; 256]) {
-    let h = eventlog::eventlog_fresh(63);
+    let h = eventlog_fresh(63);
     let h = read(b"forwards", e, h, log, 5);
     read(b"then backwards", e, h, log, 9);
     read(b"seek 8 backwards", e, h, log, 10);
 }
 
 fn listing(e: u32, log: &[u8; 256], out: &mut [u8]) {
-    let w = eventlog::eventlog_listing(e, log, out);
+    let w = eventlog_listing(e, log, out);
     line2(b"listing", w.refusal as u64, w.length as u64);
     output(out);
 }

@@ -2,10 +2,10 @@
 // log and image are asked from C and Rust (tests/card.c and host/compare): they are larger than a program's stack.
 
 use checksum::check;
-use eventlog::memory_card::eventlog_card_blocks;
-use eventlog::memory_card::eventlog_card_judge;
-use eventlog::memory_card::eventlog_card_read;
-use eventlog::memory_card::eventlog_card_write;
+use eventlog_card::eventlog_card_blocks;
+use eventlog_card::eventlog_card_judge;
+use eventlog_card::eventlog_card_read;
+use eventlog_card::eventlog_card_write;
 use libc::STDOUT_FILENO;
 use stores::put;
 

@@ -7,6 +7,9 @@ mod show;
 
 use crate::show::bytes;
 use crate::show::line;
+use eventlog_serving::eventlog_fresh;
+use eventlog_serving::eventlog_read;
+use eventlog_serving::eventlog_types_count;
 use format::Edition;
 use serve::Handle;
 use serve::Place;
@@ -166,7 +169,7 @@ fn set(set: u32) {
         &[
             set as u64,
             event_types::count(set) as u64,
-            eventlog::eventlog_types_count(set) as u64,
+            eventlog_types_count(set) as u64,
             flag(event_types::is_set(set)),
         ],
     );
@@ -177,7 +180,7 @@ fn handles() {
     let h = Handle::fresh(4);
     let place = h.place;
     line(b"fresh", &[at_of(place), h.types as u64]);
-    let c = eventlog::eventlog_fresh(70);
+    let c = eventlog_fresh(70);
     line(
         b"fresh",
         &[c.kind as u64, c.types as u64, c.boundary as u64],
@@ -187,8 +190,8 @@ fn handles() {
 // The same across the border to C: a read that succeeds, and one that is refused.
 fn border(log: &[u8], types: u32, size: usize) {
     let mut out = [0xaau8; 300];
-    let h = eventlog::eventlog_fresh(types);
-    let a = eventlog::eventlog_read(0, h, log, 5, 0, size, &mut out);
+    let h = eventlog_fresh(types);
+    let a = eventlog_read(0, h, log, 5, 0, size, &mut out);
     let next = a.handle;
     line(
         b"border",
