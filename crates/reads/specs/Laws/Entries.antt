@@ -23,11 +23,12 @@ use Rattle.event_types.specs.Types.{only}
 use Rattle.event_types.specs.Laws.{only-reverse, all-only}
 use Rattle.delivery.specs.declared.Delivered.the-variants.{TooLong}
 use Rattle.delivery.specs.Delivering.{traceAhead, wantedOf, fitting, recordsBytes, edge, lastEdge, delivery, copied, delivered, delivering}
+use Rattle.request.specs.Statuses.{endOfFile, bufferTooSmall}
 use Rattle.serve.specs.declared.Place.{Place}
 use Rattle.serve.specs.declared.Place.the-variants.{Boundary}
 use Rattle.serve.specs.declared.Handle.{Handle}
 use Rattle.serve.specs.Answers.{Served, served}
-use Rattle.serve.specs.Serving.{endOfFile, bufferTooSmall, refused, servedWith}
+use Rattle.serve.specs.Serving.{refused, servedWith}
 use Rattle.reads.specs.Model.{Entry, entries, wantedBytes, inOrder, recordsFor, joined, edgeOf, reached, fitsBy, fits}
 use Rattle.reads.specs.Laws.Found.{found-lies}
 use Rattle.reads.specs.Laws.Wanted.{wantedFrom, next-found, next-of}
