@@ -7,8 +7,8 @@ use mathlib.Core.Bool.{cond}
 use mathlib.Core.List.{List}
 use Prim.Native.Nat.{ℕ}
 use Rattle.format.specs.declared.Direction.{Direction}
-use Rattle.delivery.specs.declared.Delivered.{Delivered}
-use Rattle.delivery.specs.declared.Delivered.the-variants.{Records, End, Corrupt, TooLong}
+use Rattle.delivered.specs.declared.Delivered.{Delivered}
+use Rattle.delivered.specs.declared.Delivered.the-variants.{Records, End, Corrupt, TooLong}
 use Rattle.delivery.specs.Delivering.{Delivery, traceAhead, delivered}
 use Rattle.request.specs.declared.Request.{Request}
 use Rattle.request.specs.declared.Request.the-variants.{Sequential, Seek, Wrong}

@@ -21,7 +21,7 @@ use Rattle.format.specs.Laws.Steps.{Judged}
 use Rattle.format.specs.Laws.Walks.{all-reverse, found-moves, rest-start, front-trace, rear-trace}
 use Rattle.event_types.specs.Types.{only}
 use Rattle.event_types.specs.Laws.{only-reverse, all-only}
-use Rattle.delivery.specs.declared.Delivered.the-variants.{TooLong}
+use Rattle.delivered.specs.declared.Delivered.the-variants.{TooLong}
 use Rattle.delivery.specs.Delivering.{traceAhead, wantedOf, fitting, recordsBytes, edge, lastEdge, delivery, copied, delivered, delivering}
 use Rattle.request.specs.Statuses.{endOfFile, bufferTooSmall}
 use Rattle.serve.specs.declared.Place.{Place}

@@ -10,8 +10,8 @@ use Rattle.format.specs.Bytes.{All, none, more}
 use Rattle.format.specs.Judge.{past}
 use Rattle.event_types.specs.Types.{isTypeSet}
 use Rattle.event_types.specs.Laws.{only-all, all-hold, all-right}
-use Rattle.delivery.specs.declared.Delivered.{Delivered}
-use Rattle.delivery.specs.declared.Delivered.the-variants.{Records, End, Corrupt, TooLong}
+use Rattle.delivered.specs.declared.Delivered.{Delivered}
+use Rattle.delivered.specs.declared.Delivered.the-variants.{Records, End, Corrupt, TooLong}
 use Rattle.delivery.specs.Delivering.{traceAhead, wanted, wantedOf, delivered, delivering}
 use Rattle.request.specs.declared.Request.{Request}
 use Rattle.request.specs.declared.Request.the-variants.{Sequential, Seek, Wrong}
