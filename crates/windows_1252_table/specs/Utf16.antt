@@ -7,7 +7,7 @@ use lib.ListN.{length}
 use lib.Dec.{eqb}
 use Rattle.format.specs.Bytes.{le, num, join}
 use Rattle.format.specs.Good.{member}
-use Rattle.code_page.specs.Table.{table, unitOf, byteOf}
+use Rattle.windows_1252_table.specs.Table.{table, unitOf, byteOf}
 
 -- Rule 14.4: units as bytes
 unfoldable pub unitBytes : List ℕ → List ℕ

@@ -12,7 +12,7 @@ use borrow.Author.Tests.{eqb-true, eq-eqb, ltb-true}
 use Rattle.format.specs.Bytes.{All, none, more}
 use Rattle.format.specs.Good.{member}
 use Rattle.format.specs.Laws.Tests.{nope, eqb-means, and-left, and-right, or-right}
-use Rattle.code_page.specs.Table.{table, unitOf, place, byteOf}
+use Rattle.windows_1252_table.specs.Table.{table, unitOf, place, byteOf}
 
 -- ---- any list
 

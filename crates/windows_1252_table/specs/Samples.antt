@@ -4,8 +4,8 @@
 use mathlib.Core.Path.{_≡_, refl}
 use mathlib.Core.List.{List, [], _∷_, map}
 use Prim.Native.Nat.{ℕ}
-use Rattle.code_page.specs.Table.{table, unitOf, place, byteOf}
-use Rattle.code_page.specs.Utf16.{unitBytes, unitsIn, toUtf16, allInTable, utf16Refusal, fromUtf16}
+use Rattle.windows_1252_table.specs.Table.{table, unitOf, place, byteOf}
+use Rattle.windows_1252_table.specs.Utf16.{unitBytes, unitsIn, toUtf16, allInTable, utf16Refusal, fromUtf16}
 
 -- a sample: what the definitions answer, and what section 14 says
 pub record Sample : Type 0 where

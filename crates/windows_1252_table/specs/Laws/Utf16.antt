@@ -13,9 +13,9 @@ use Rattle.format.specs.Bytes.{IsBytes, All, none, more, num}
 use Rattle.format.specs.Good.{member}
 use Rattle.format.specs.Laws.Bytes.{bytes-nil, bytes-cons, bytes-tail, num-le, le-num}
 use Rattle.format.specs.Laws.Tests.{eqb-means, test-means, and-means, and-left, and-right}
-use Rattle.code_page.specs.Table.{table, unitOf, byteOf}
-use Rattle.code_page.specs.Utf16.{unitBytes, unitsIn, toUtf16, allInTable, wholeTest, utf16Refusal, fromUtf16}
-use Rattle.code_page.specs.Laws.Table.{byte-of-unit, unit-member, unit-of-byte, byte-small, in-table-small}
+use Rattle.windows_1252_table.specs.Table.{table, unitOf, byteOf}
+use Rattle.windows_1252_table.specs.Utf16.{unitBytes, unitsIn, toUtf16, allInTable, wholeTest, utf16Refusal, fromUtf16}
+use Rattle.windows_1252_table.specs.Laws.Table.{byte-of-unit, unit-member, unit-of-byte, byte-small, in-table-small}
 
 getD-map : (f : ℕ → ℕ) (xs : List ℕ) (i : ℕ) → i < length xs → getD (map f xs) i 0 ≡ f (getD xs i 0)
 getD-map f [] i h = absurd (not-suc-le-zero h)
