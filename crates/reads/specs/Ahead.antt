@@ -16,10 +16,10 @@ use Rattle.format.specs.Bytes.{All, part}
 use Rattle.format.specs.Judge.{ahead, past, stepAt}
 use Rattle.format.specs.Walk.{trace}
 use Rattle.delivery.specs.Delivering.{wanted, recordsBytes, edge}
+use Rattle.seek.specs.Seeking.{placeOf}
 use Rattle.serve.specs.declared.Place.the-variants.{Boundary}
 use Rattle.serve.specs.declared.Handle.{Handle}
 use Rattle.serve.specs.Answers.{Served, served}
-use Rattle.serve.specs.Serving.{placeOf}
 use Rattle.reads.specs.Model.{Read, sequentialFlags, seekFlags, Wrong, RightSize, RightSet, Inside, Asks}
 use Rattle.reads.specs.Series.{call}
 

@@ -7,17 +7,19 @@ use mathlib.Core.Bool.{cond}
 use mathlib.Core.List.{List}
 use Prim.Native.Nat.{ℕ}
 use Rattle.format.specs.declared.Direction.{Direction}
-use Rattle.delivery.specs.declared.Delivered.{Delivered}
-use Rattle.delivery.specs.declared.Delivered.the-variants.{Records, End, Corrupt, TooLong}
+use Rattle.delivered.specs.declared.Delivered.{Delivered}
+use Rattle.delivered.specs.declared.Delivered.the-variants.{Records, End, Corrupt, TooLong}
 use Rattle.delivery.specs.Delivering.{Delivery, traceAhead, delivered}
+use Rattle.request.specs.declared.Request.{Request}
+use Rattle.request.specs.declared.Request.the-variants.{Sequential, Seek, Wrong}
+use Rattle.request.specs.Asking.{request}
+use Rattle.seek.specs.declared.Start.{Start}
+use Rattle.seek.specs.declared.Start.the-variants.{From, Refused}
+use Rattle.seek.specs.Seeking.{seekStart}
 use Rattle.serve.specs.declared.Place.{Place}
 use Rattle.serve.specs.declared.Place.the-variants.{Boundary}
-use Rattle.serve.specs.declared.Request.{Request}
-use Rattle.serve.specs.declared.Request.the-variants.{Sequential, Seek, Wrong}
-use Rattle.serve.specs.declared.Start.{Start}
-use Rattle.serve.specs.declared.Start.the-variants.{From, Refused}
 use Rattle.serve.specs.Answers.{Served}
-use Rattle.serve.specs.Serving.{request, sizeOk, readingPlace, inLog, seekStart}
+use Rattle.serve.specs.Serving.{sizeOk, readingPlace, inLog}
 
 -- what a read answered, and the output afterwards
 pub record Plain : Type 0 where

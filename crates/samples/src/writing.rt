@@ -16,9 +16,9 @@ use crate::table::field;
 use crate::table::nth;
 use crate::table::number;
 use crate::table::what;
-use event::places::measure;
 use format::Edition;
 use format::Written;
+use places::measure;
 
 // The event of a question: its numbers, source, computer, SID, strings and data.
 fn write(q: &[u8], out: &mut [u8]) -> Written {

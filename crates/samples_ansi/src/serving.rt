@@ -17,7 +17,7 @@ use crate::table::find;
 use crate::table::number;
 use crate::table::number32;
 use crate::table::what;
-use delivery::Delivered;
+use delivered::Delivered;
 use format::Direction;
 use format::Edition;
 use libc::STDOUT_FILENO;

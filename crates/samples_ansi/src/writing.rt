@@ -19,11 +19,11 @@ use crate::table::field;
 use crate::table::find;
 use crate::table::number;
 use crate::table::what;
-use event::places::measure;
 use format::Appended;
 use format::Edition;
 use format::Step;
 use format::Written;
+use places::measure;
 use stores::put;
 
 // The event of a question: its numbers, source, computer, SID, strings and data.

@@ -13,11 +13,11 @@ use lib.Dec.{eqb, leb}
 use borrow.Author.Tests.{eqb-true, lt-ltb, le-ltb}
 use Rattle.format.specs.Good.{member}
 use Rattle.format.specs.Laws.Tests.{eqb-means, leb-means, or-means}
-use Rattle.windows_1252.specs.Table.{table, unitOf, byteOf}
-use Rattle.windows_1252.specs.Utf16.{unitsIn, allInTable}
+use Rattle.windows_1252_table.specs.Table.{table, unitOf, byteOf}
+use Rattle.windows_1252_table.specs.Utf16.{unitsIn, allInTable}
 use Rattle.windows_1252.specs.Code.{candidateBytes, candidateOf}
-use Rattle.windows_1252.specs.Laws.Table.{every, every-at, table-long, byte-of-unit, unit-of-byte, byte-small, byte-missing}
-use Rattle.windows_1252.specs.Laws.Utf16.{length-units}
+use Rattle.windows_1252_table.specs.Laws.Table.{every, every-at, table-long, byte-of-unit, unit-of-byte, byte-small, byte-missing}
+use Rattle.windows_1252_table.specs.Laws.Utf16.{length-units}
 
 -- ---- units below 128
 

@@ -10,9 +10,9 @@ use lib.Seq.{take-all}
 use Rattle.format.specs.Stores.{over}
 use Rattle.format.specs.Writing.{outcome}
 use Rattle.format.specs.Laws.Stores.{over-nothing, over-next}
-use Rattle.windows_1252.specs.Table.{table, unitOf, byteOf}
-use Rattle.windows_1252.specs.Utf16.{unitsIn, toUtf16, utf16Refusal, fromUtf16}
-use Rattle.windows_1252.specs.Laws.Utf16.{length-to-utf16, to-low, to-high, from-at, accepted-byte}
+use Rattle.windows_1252_table.specs.Table.{table, unitOf, byteOf}
+use Rattle.windows_1252_table.specs.Utf16.{unitsIn, toUtf16, utf16Refusal, fromUtf16}
+use Rattle.windows_1252_table.specs.Laws.Utf16.{length-to-utf16, to-low, to-high, from-at, accepted-byte}
 use Rattle.windows_1252.specs.Theorems.{wrote}
 
 -- the output with the first n bytes of t over its start

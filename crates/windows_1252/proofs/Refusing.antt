@@ -9,7 +9,7 @@ use lib.ListN.{length}
 use lib.Dec.{leb}
 use borrow.Author.Tests.{eq-eqb, ne-eqb, leb-true, leb-false}
 use Rattle.format.specs.Writing.{outcome}
-use Rattle.windows_1252.specs.Utf16.{unitsIn, allInTable, wholeTest, utf16Refusal}
+use Rattle.windows_1252_table.specs.Utf16.{unitsIn, allInTable, wholeTest, utf16Refusal}
 use Rattle.windows_1252.specs.Calls.{writingBytes}
 use Rattle.windows_1252.specs.Code.{refusalOf}
 use Rattle.windows_1252.specs.Theorems.{outside-table, bytes-no-room}

@@ -3,7 +3,7 @@
 use mathlib.Core.List.{List}
 use Prim.Native.Nat.{ℕ}
 use Rattle.format.specs.Writing.{Output, writingAs}
-use Rattle.windows_1252.specs.Utf16.{toUtf16, utf16Refusal, fromUtf16}
+use Rattle.windows_1252_table.specs.Utf16.{toUtf16, utf16Refusal, fromUtf16}
 
 -- Rule 14.5: to UTF-16, over the start of the output
 unfoldable pub writingUtf16 : List ℕ → List ℕ → Output

@@ -6,7 +6,7 @@ use mathlib.Core.List.{List, [], _∷_}
 use Prim.Native.Nat.{ℕ, _%_}
 use lib.ListN.{getD}
 use lib.Dec.{ltb}
-use Rattle.windows_1252.specs.Table.{table}
+use Rattle.windows_1252_table.specs.Table.{table}
 
 -- the bytes of the units from 256 on, each at its unit's remainder by 79
 unfoldable pub candidateBytes : List ℕ

@@ -13,11 +13,11 @@ use Rattle.format.specs.Bytes.{IsBytes, All}
 use Rattle.format.specs.Good.{member}
 use Rattle.format.specs.Writing.{Output, outcome, writingAs}
 use Rattle.format.specs.Laws.Writing.{wrote as format-wrote, unwritten, writing-holds}
-use Rattle.windows_1252.specs.Table.{table, unitOf, byteOf}
-use Rattle.windows_1252.specs.Utf16.{unitBytes, unitsIn, toUtf16, wholeTest, utf16Refusal, fromUtf16}
+use Rattle.windows_1252_table.specs.Table.{table, unitOf, byteOf}
+use Rattle.windows_1252_table.specs.Utf16.{unitBytes, unitsIn, toUtf16, wholeTest, utf16Refusal, fromUtf16}
 use Rattle.windows_1252.specs.Calls.{writingUtf16, writingBytes}
-use Rattle.windows_1252.specs.Laws.Table.{byte-of-unit}
-use Rattle.windows_1252.specs.Laws.Utf16.{bytes-back, accepted-whole, whole-accepted, length-to-utf16, length-from-utf16, run-whole, to-whole, there-back, back-there}
+use Rattle.windows_1252_table.specs.Laws.Table.{byte-of-unit}
+use Rattle.windows_1252_table.specs.Laws.Utf16.{bytes-back, accepted-whole, whole-accepted, length-to-utf16, length-from-utf16, run-whole, to-whole, there-back, back-there}
 
 -- ---- what a call answers, and its output afterwards
 

@@ -16,8 +16,8 @@ ghost use Prim.Native.Nat.{_*_, _≤_};
 ghost use lib.ListN.{length};
 ghost use Rattle.format.specs.Stores.{over};
 ghost use Rattle.format.specs.Writing.{outcome};
-ghost use Rattle.windows_1252.specs.Table.{table};
-ghost use Rattle.windows_1252.specs.Utf16.{toUtf16};
+ghost use Rattle.windows_1252_table.specs.Table.{table};
+ghost use Rattle.windows_1252_table.specs.Utf16.{toUtf16};
 ghost use Rattle.windows_1252.specs.Calls.{writingUtf16, writingBytes};
 
 // The units of bytes over the start of the output.

@@ -6,8 +6,8 @@ ghost use mathlib.Core.Path.{_≡_};
 ghost use Prim.Native.Nat.{_/_, _<_, _≤_};
 ghost use lib.ListN.{length, getD};
 ghost use Rattle.format.specs.Writing.{outcome};
-ghost use Rattle.windows_1252.specs.Table.{byteOf};
-ghost use Rattle.windows_1252.specs.Utf16.{unitsIn, allInTable, wholeTest, utf16Refusal, fromUtf16};
+ghost use Rattle.windows_1252_table.specs.Table.{byteOf};
+ghost use Rattle.windows_1252_table.specs.Utf16.{unitsIn, allInTable, wholeTest, utf16Refusal, fromUtf16};
 ghost use Rattle.windows_1252.specs.Code.{candidateBytes, candidateOf, TablesAre, refusalOf};
 ghost use Rattle.windows_1252.specs.Theorems.{wrote};
 

@@ -12,8 +12,8 @@ use Rattle.format.specs.Writing.{outcome, writingAs, writtenSizes, written, eve
 use Rattle.format.specs.Laws.Stores.{Stored}
 use Rattle.format.specs.Laws.Tests.{leb-means, met}
 use Rattle.format.specs.Laws.Writing.{short-refused, stored-written}
-use Rattle.event.specs.declared.places.Places.{Places}
-use Rattle.event.specs.Placing.{placesOf, noPlaces, placesIn, placesFor}
+use Rattle.places.specs.declared.Places.{Places}
+use Rattle.places.specs.Placing.{placesOf, noPlaces, placesIn, placesFor}
 use Rattle.writer.specs.Room.{RoomFor}
 use Rattle.writer.proofs.WholeRecord.{length-written}
 

@@ -16,7 +16,7 @@ use Rattle.format.specs.declared.Direction.the-variants.{Forwards, Backwards}
 use Rattle.format.specs.Bytes.{All, none, more}
 use Rattle.format.specs.Judge.{recordNumber}
 use Rattle.event_types.specs.Types.{only, isTypeSet}
-use Rattle.serve.specs.Serving.{request}
+use Rattle.request.specs.Asking.{request}
 use Rattle.reads.specs.Model.{wantedBytes, Read, seekFlags, RightSize, First}
 use Rattle.reads.specs.Ahead.{opposite}
 use Rattle.reads.specs.Operations.{State, Outcome, recordsAhead, through, moved, readRefused, readsFrom, olderThan, seeksAt, readAsked, readOutcome}

@@ -11,7 +11,7 @@ use borrow.Author.Tests.{eq-eqb, ne-eqb, leb-true, leb-false}
 use Rattle.format.specs.declared.Record.{Record}
 use Rattle.format.specs.declared.Direction.{Direction}
 use Rattle.format.specs.Bytes.{part}
-use Rattle.delivery.specs.declared.Delivered.the-variants.{End, Corrupt, TooLong}
+use Rattle.delivered.specs.declared.Delivered.the-variants.{End, Corrupt, TooLong}
 use Rattle.delivery.specs.Delivering.{traceAhead, fitting, recordsBytes, edge, lastEdge, delivery, copied, delivered, delivering}
 use Rattle.serve.specs.declared.Place.the-variants.{Boundary}
 use Rattle.serve.specs.declared.Handle.{Handle}

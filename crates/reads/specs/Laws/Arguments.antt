@@ -12,12 +12,14 @@ use Rattle.format.specs.declared.Direction.{Direction}
 use Rattle.format.specs.declared.Direction.the-variants.{Forwards, Backwards}
 use Rattle.format.specs.Layout.{maxRead}
 use Rattle.event_types.specs.Types.{isTypeSet}
+use Rattle.request.specs.Statuses.{invalidParameter, invalidHandle}
+use Rattle.request.specs.Asking.{request}
+use Rattle.request.specs.Laws.{request-wrong}
 use Rattle.serve.specs.declared.Place.{Place}
 use Rattle.serve.specs.declared.Place.the-variants.{Fresh, Boundary}
 use Rattle.serve.specs.declared.Handle.{Handle}
 use Rattle.serve.specs.Answers.{Served}
-use Rattle.serve.specs.Serving.{invalidParameter, invalidHandle, request, sizeOk, inLog, refused, allowed, asked, serving}
-use Rattle.serve.specs.Laws.{request-wrong}
+use Rattle.serve.specs.Serving.{sizeOk, inLog, refused, allowed, asked, serving}
 use Rattle.reads.specs.Model.{Read, Wrong, sequentialFlags, seekFlags, RightSize, RightSet, Inside, Asks}
 use Rattle.reads.specs.Series.{call}
 use Rattle.reads.specs.Laws.Requests.{request-sequential, request-seek, placed, typed, size-allowed, set-allowed}

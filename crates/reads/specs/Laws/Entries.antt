@@ -21,13 +21,14 @@ use Rattle.format.specs.Laws.Steps.{Judged}
 use Rattle.format.specs.Laws.Walks.{all-reverse, found-moves, rest-start, front-trace, rear-trace}
 use Rattle.event_types.specs.Types.{only}
 use Rattle.event_types.specs.Laws.{only-reverse, all-only}
-use Rattle.delivery.specs.declared.Delivered.the-variants.{TooLong}
+use Rattle.delivered.specs.declared.Delivered.the-variants.{TooLong}
 use Rattle.delivery.specs.Delivering.{traceAhead, wantedOf, fitting, recordsBytes, edge, lastEdge, delivery, copied, delivered, delivering}
+use Rattle.request.specs.Statuses.{endOfFile, bufferTooSmall}
 use Rattle.serve.specs.declared.Place.{Place}
 use Rattle.serve.specs.declared.Place.the-variants.{Boundary}
 use Rattle.serve.specs.declared.Handle.{Handle}
 use Rattle.serve.specs.Answers.{Served, served}
-use Rattle.serve.specs.Serving.{endOfFile, bufferTooSmall, refused, servedWith}
+use Rattle.serve.specs.Serving.{refused, servedWith}
 use Rattle.reads.specs.Model.{Entry, entries, wantedBytes, inOrder, recordsFor, joined, edgeOf, reached, fitsBy, fits}
 use Rattle.reads.specs.Laws.Found.{found-lies}
 use Rattle.reads.specs.Laws.Wanted.{wantedFrom, next-found, next-of}

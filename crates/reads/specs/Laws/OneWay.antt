@@ -16,11 +16,12 @@ use Rattle.format.specs.declared.Direction.the-variants.{Forwards, Backwards}
 use Rattle.format.specs.Bytes.{All, none, more, join}
 use Rattle.format.specs.Laws.Walks.{line, line-backwards}
 use Rattle.event_types.specs.Types.{only, isTypeSet}
+use Rattle.request.specs.Asking.{request}
+use Rattle.request.specs.Laws.{request-wrong}
 use Rattle.serve.specs.declared.Place.the-variants.{Fresh, Boundary}
 use Rattle.serve.specs.declared.Handle.{Handle}
 use Rattle.serve.specs.Answers.{served}
-use Rattle.serve.specs.Serving.{request, sizeOk}
-use Rattle.serve.specs.Laws.{request-wrong}
+use Rattle.serve.specs.Serving.{sizeOk}
 use Rattle.reads.specs.Model as model
 use Rattle.reads.specs.Model.{Entry, entries, wantedBytes, inOrder, recordsFor, joined, reached, Read, OneWay, sequentialFlags, fitsBy, fits, handleAfter, Counted, unread, next, answered, answers}
 use Rattle.reads.specs.Operations.{Reading, Cursor, Unset, Behind, State, ReadAnswer, Outcome, readRefused, startsAt, recordsAhead, through, moved, readCopies, readsAhead, readsFrom, readAsked, readOutcome, outcomes}

@@ -28,15 +28,18 @@ use Rattle.format.specs.Laws.Writing.{accepted-laid-out}
 use Rattle.format.specs.Theorems as format
 use Rattle.event_types.specs.Types.{only, isTypeSet}
 use Rattle.delivery.specs.Delivering.{delivering}
+use Rattle.request.specs.declared.Request.{Request}
+use Rattle.request.specs.declared.Request.the-variants.{Sequential, Seek, Wrong}
+use Rattle.request.specs.Statuses.{invalidParameter, invalidHandle, bufferTooSmall}
+use Rattle.request.specs.Asking.{request}
+use Rattle.seek.specs.declared.Start.{Start}
+use Rattle.seek.specs.declared.Start.the-variants.{From, Refused}
+use Rattle.seek.specs.Seeking.{placeOf, sought, seekStart}
 use Rattle.serve.specs.declared.Place.{Place}
 use Rattle.serve.specs.declared.Place.the-variants.{Boundary}
 use Rattle.serve.specs.declared.Handle.{Handle}
-use Rattle.serve.specs.declared.Request.{Request}
-use Rattle.serve.specs.declared.Request.the-variants.{Sequential, Seek, Wrong}
-use Rattle.serve.specs.declared.Start.{Start}
-use Rattle.serve.specs.declared.Start.the-variants.{From, Refused}
 use Rattle.serve.specs.Answers.{Served}
-use Rattle.serve.specs.Serving.{invalidParameter, invalidHandle, bufferTooSmall, request, sizeOk, readingPlace, inLog, placeOf, sought, seekStart, refused, servedWith, started, allowed, asked, serving}
+use Rattle.serve.specs.Serving.{sizeOk, readingPlace, inLog, refused, servedWith, started, allowed, asked, serving}
 use Rattle.reads.specs.Model.{Entry, wantedBytes, Read, joined, reached, fitsBy, fits}
 use Rattle.reads.specs.Series.{call}
 use Rattle.reads.specs.Operations.{Operation, Reading, Appending, Givable, given-read, given-append, Cursor, Unset, Behind, State, Outcome, readRefused, startsAt, recordsAhead, through, moved, readCopies, readsAhead, readsFrom, olderThan, seeksAt, readAsked, readOutcome, appendRefused, appendAccepted, appendJudged, appendOutcome, outcomes, stateAfter}

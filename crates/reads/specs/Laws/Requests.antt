@@ -12,12 +12,15 @@ use Rattle.format.specs.declared.Direction.the-variants.{Forwards, Backwards}
 use Rattle.format.specs.Layout.{maxRead}
 use Rattle.event_types.specs.Types.{isTypeSet}
 use Rattle.delivery.specs.Delivering.{delivering}
+use Rattle.request.specs.declared.Request.the-variants.{Sequential, Seek}
+use Rattle.request.specs.Statuses.{invalidParameter, invalidHandle}
+use Rattle.request.specs.Asking.{request}
+use Rattle.seek.specs.Seeking.{seekStart}
 use Rattle.serve.specs.declared.Place.{Place}
 use Rattle.serve.specs.declared.Place.the-variants.{Fresh, Boundary}
 use Rattle.serve.specs.declared.Handle.{Handle}
-use Rattle.serve.specs.declared.Request.the-variants.{Sequential, Seek}
 use Rattle.serve.specs.Answers.{Served}
-use Rattle.serve.specs.Serving.{invalidParameter, invalidHandle, request, readingPlace, inLog, seekStart, refused, servedWith, started, allowed, asked, serving}
+use Rattle.serve.specs.Serving.{readingPlace, inLog, refused, servedWith, started, allowed, asked, serving}
 use Rattle.reads.specs.Model.{Read, sequentialFlags, seekFlags, RightSize, RightSet, Inside, Asks}
 use Rattle.reads.specs.Series.{call}
 

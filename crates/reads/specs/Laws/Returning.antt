@@ -15,8 +15,9 @@ use Rattle.format.specs.declared.Direction.{Direction}
 use Rattle.format.specs.declared.Direction.the-variants.{Forwards}
 use Rattle.format.specs.Bytes.{join}
 use Rattle.event_types.specs.Types.{only, isTypeSet}
-use Rattle.serve.specs.declared.Request.the-variants.{Sequential, Seek}
-use Rattle.serve.specs.Serving.{request, sizeOk}
+use Rattle.request.specs.declared.Request.the-variants.{Sequential, Seek}
+use Rattle.request.specs.Asking.{request}
+use Rattle.serve.specs.Serving.{sizeOk}
 use Rattle.reads.specs.Model.{wantedBytes, Read, fitsBy, sequentialFlags, seekFlags, RightSize}
 use Rattle.reads.specs.Operations.{Behind, State, Answer, ReadAnswer, AppendAnswer, Outcome, startsAt, recordsAhead, readRefused, readCopies, readsAhead, readsFrom, olderThan, seeksAt, readAsked, readOutcome}
 use Rattle.reads.specs.Calls.{Result, ReadResult, AppendResult, resultOf, shownResult}

@@ -10,17 +10,19 @@ use Rattle.format.specs.Bytes.{All, none, more}
 use Rattle.format.specs.Judge.{past}
 use Rattle.event_types.specs.Types.{isTypeSet}
 use Rattle.event_types.specs.Laws.{only-all, all-hold, all-right}
-use Rattle.delivery.specs.declared.Delivered.{Delivered}
-use Rattle.delivery.specs.declared.Delivered.the-variants.{Records, End, Corrupt, TooLong}
+use Rattle.delivered.specs.declared.Delivered.{Delivered}
+use Rattle.delivered.specs.declared.Delivered.the-variants.{Records, End, Corrupt, TooLong}
 use Rattle.delivery.specs.Delivering.{traceAhead, wanted, wantedOf, delivered, delivering}
+use Rattle.request.specs.declared.Request.{Request}
+use Rattle.request.specs.declared.Request.the-variants.{Sequential, Seek, Wrong}
+use Rattle.request.specs.Statuses.{invalidParameter, invalidHandle}
+use Rattle.seek.specs.declared.Start.{Start}
+use Rattle.seek.specs.declared.Start.the-variants.{From, Refused}
+use Rattle.seek.specs.Seeking.{seekStart}
 use Rattle.serve.specs.declared.Place.{Place}
 use Rattle.serve.specs.declared.Handle.{Handle}
-use Rattle.serve.specs.declared.Request.{Request}
-use Rattle.serve.specs.declared.Request.the-variants.{Sequential, Seek, Wrong}
-use Rattle.serve.specs.declared.Start.{Start}
-use Rattle.serve.specs.declared.Start.the-variants.{From, Refused}
 use Rattle.serve.specs.Answers.{Served, served}
-use Rattle.serve.specs.Serving.{invalidParameter, invalidHandle, sizeOk, readingPlace, inLog, seekStart, refused, answerTo, servedWith, started, allowed, asked}
+use Rattle.serve.specs.Serving.{sizeOk, readingPlace, inLog, refused, answerTo, servedWith, started, allowed, asked}
 use Rattle.reads.specs.WithoutSets.{plain, plainRefused, plainTo, plainStarted, plainAllowed, plainAsked}
 use Rattle.reads.specs.Laws.Found.{found-lies}
 use Rattle.reads.specs.Laws.Wanted.{first-found}

@@ -16,9 +16,10 @@ use Rattle.format.specs.Bytes.{All, none, more}
 use Rattle.format.specs.Judge.{past, stepAt}
 use Rattle.format.specs.Walk.{Trace, trace}
 use Rattle.format.specs.Laws.Walks.{rest-start}
+use Rattle.seek.specs.Seeking.{placeOf, sought}
 use Rattle.serve.specs.declared.Handle.{Handle}
 use Rattle.serve.specs.Answers.{Served}
-use Rattle.serve.specs.Serving.{placeOf, sought, refused, started}
+use Rattle.serve.specs.Serving.{refused, started}
 use Rattle.reads.specs.Model.{Read, seekFlags, Asks}
 use Rattle.reads.specs.Series.{call}
 use Rattle.reads.specs.Ahead.{Skips, here, skip, NoneLeft, NextRefuses, NextLonger, NextFits, ReadsFrom, FirstHas, NoneHas, SeeksIn}

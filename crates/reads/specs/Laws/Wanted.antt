@@ -20,7 +20,7 @@ use Rattle.format.specs.Laws.Steps.{refused-number}
 use Rattle.format.specs.Laws.Records.{found-start}
 use Rattle.format.specs.Laws.Walks.{rest-end, rest-refused, rest-found}
 use Rattle.delivery.specs.Delivering.{traceAhead, wanted, wantedOf, edge}
-use Rattle.serve.specs.Serving.{placeOf}
+use Rattle.seek.specs.Seeking.{placeOf}
 use Rattle.reads.specs.Ahead.{Skips, here, skip, NoneLeft, NextRefuses, Next}
 use Rattle.reads.specs.Laws.Found.{found-lies}
 

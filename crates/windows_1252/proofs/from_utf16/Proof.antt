@@ -4,8 +4,8 @@ use Prim.Native.Nat.{_/_, _≤_}
 use native.Mathlib.Omega.{arith}
 use borrow.Author.Needs.{needs}
 use lib.ListN.{length}
-use Rattle.windows_1252.specs.Table.{table}
-use Rattle.windows_1252.specs.Utf16.{utf16Refusal}
+use Rattle.windows_1252_table.specs.Table.{table}
+use Rattle.windows_1252_table.specs.Utf16.{utf16Refusal}
 use Rattle.windows_1252.specs.Code.{candidateBytes}
 use Rattle.windows_1252.specs.Theorems.{bytes-written}
 use Rattle.windows_1252.proofs.Refusing.{refused-first, not-refused, has-room}

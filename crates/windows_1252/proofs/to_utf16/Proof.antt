@@ -4,8 +4,8 @@ use Prim.Native.Nat.{_*_, _≤_}
 use native.Mathlib.Omega.{arith}
 use borrow.Author.Needs.{needs}
 use lib.ListN.{length}
-use Rattle.windows_1252.specs.Table.{table}
-use Rattle.windows_1252.specs.Utf16.{toUtf16}
+use Rattle.windows_1252_table.specs.Table.{table}
+use Rattle.windows_1252_table.specs.Utf16.{toUtf16}
 use Rattle.windows_1252.specs.Theorems.{utf16-size, utf16-written, utf16-no-room}
 use Rattle.windows_1252.proofs.Putting.{put-all}
 use Rattle.windows_1252.proofs.to_utf16.Statement.{statement}

@@ -3,7 +3,7 @@ use mathlib.Core.Path.{_≡_, sym, _∙_}
 use Prim.Native.Nat.{_-_, _≤_}
 use native.Mathlib.Omega.{arith}
 use borrow.Author.Needs.{needs}
-use Rattle.windows_1252.specs.Utf16.{unitsIn, allInTable}
+use Rattle.windows_1252_table.specs.Utf16.{unitsIn, allInTable}
 use Rattle.windows_1252.proofs.Finding.{restInTable, rest-all, rest-none, rest-outside, rest-next}
 use Rattle.windows_1252.proofs.units.all_in_table.Statement.{statement}
 use Rattle.windows_1252.proofs.units.all_in_table.Tie as tie

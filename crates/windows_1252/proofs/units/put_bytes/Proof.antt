@@ -4,8 +4,8 @@ use Prim.Native.Nat.{_-_, _≤_}
 use native.Mathlib.Omega.{arith}
 use borrow.Author.Needs.{needs}
 use lib.ListN.{length, length-set}
-use Rattle.windows_1252.specs.Utf16.{fromUtf16}
-use Rattle.windows_1252.specs.Laws.Utf16.{length-from-utf16}
+use Rattle.windows_1252_table.specs.Utf16.{fromUtf16}
+use Rattle.windows_1252_table.specs.Laws.Utf16.{length-from-utf16}
 use Rattle.windows_1252.proofs.Putting.{started, start, unit-byte, unit-byte-small, next, all, put-all}
 use Rattle.windows_1252.proofs.units.put_bytes.Statement.{statement}
 use Rattle.windows_1252.proofs.units.put_bytes.Tie as tie

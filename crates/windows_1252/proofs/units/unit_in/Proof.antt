@@ -2,7 +2,7 @@
 use mathlib.Core.Path.{sym, _∙_}
 use native.Mathlib.Omega.{arith}
 use borrow.Author.Needs.{needs}
-use Rattle.windows_1252.specs.Laws.Utf16.{unit-at}
+use Rattle.windows_1252_table.specs.Laws.Utf16.{unit-at}
 use Rattle.windows_1252.proofs.units.unit_in.Statement.{statement}
 use Rattle.windows_1252.proofs.units.unit_in.Tie as tie
 
