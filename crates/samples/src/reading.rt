@@ -205,8 +205,16 @@ T with no SID|40|\0
     );
 }
 
-// 11 to 13.
+// 11 to 13, and the offsets of absent parts.
 fn strings_and_data() {
+    ask(
+        Kind::ChangedS,
+        b"\
+S with string offset 5|36|\x05
+S with SID offset 5|44|\x05
+S with data offset 5|52|\x05
+",
+    );
     ask(
         Kind::ChangedT,
         b"\
