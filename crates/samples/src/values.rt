@@ -16,13 +16,13 @@ use crate::table::number;
 use crate::table::second;
 use crate::table::what;
 use format::Edition;
+use runs::Found;
+use runs::strings_end;
 use searches::searches_strings_end;
 use searches::searches_strings_end_by_unit;
 use searches::searches_text_len;
 use searches::searches_text_len_by_unit;
 use stores::put;
-use text::Found;
-use text::strings_end;
 use text::text_len;
 
 pub fn yes(b: bool) -> u64 {
