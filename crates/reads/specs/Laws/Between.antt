@@ -60,31 +60,31 @@ met-stands d w s types p ms js h e =
     }
 
 -- their bytes
-abbrev pub bytesOf : List Entry → List (List ℕ)
-bytesOf es = map (λ (e : Entry). e .bytes) es
+abbrev pub entryBytes : List Entry → List (List ℕ)
+entryBytes es = map (λ (e : Entry). e .bytes) es
 
-pub met-bytes : (d : Direction) (types p : ℕ) (ms : List (List ℕ)) → bytesOf (wantedIn types (metEntries d p ms)) ≡ only (wantedBytes types) ms
+pub met-bytes : (d : Direction) (types p : ℕ) (ms : List (List ℕ)) → entryBytes (wantedIn types (metEntries d p ms)) ≡ only (wantedBytes types) ms
 met-bytes d types p [] = refl
 met-bytes d types p (m ∷ ms) = go (wantedBytes types m) (met-bytes d types (past d p (length m)) ms)
   where
     rest : List Entry
     rest = wantedIn types (metEntries d (past d p (length m)) ms)
 
-    go : (b : Bool) → bytesOf rest ≡ only (wantedBytes types) ms
-        → bytesOf (cond b (record { start = startOf d p (length m); bytes = m } ∷ rest) rest) ≡ cond b (m ∷ only (wantedBytes types) ms) (only (wantedBytes types) ms)
+    go : (b : Bool) → entryBytes rest ≡ only (wantedBytes types) ms
+        → entryBytes (cond b (record { start = startOf d p (length m); bytes = m } ∷ rest) rest) ≡ cond b (m ∷ only (wantedBytes types) ms) (only (wantedBytes types) ms)
     go true f = ap (λ (l : List (List ℕ)). m ∷ l) f
     go false f = f
 
-pub joined-bytes : (es : List Entry) → joined es ≡ join (bytesOf es)
+pub joined-bytes : (es : List Entry) → joined es ≡ join (entryBytes es)
 joined-bytes [] = refl
 joined-bytes (e ∷ es) = ap (λ t. e .bytes ++ t) (joined-bytes es)
 
-pub take-bytes : (k : ℕ) (es : List Entry) → bytesOf (take k es) ≡ take k (bytesOf es)
+pub take-bytes : (k : ℕ) (es : List Entry) → entryBytes (take k es) ≡ take k (entryBytes es)
 take-bytes zero es = refl
 take-bytes (suc k) [] = refl
 take-bytes (suc k) (e ∷ es) = ap (λ (l : List (List ℕ)). e .bytes ∷ l) (take-bytes k es)
 
-pub fits-bytes : (size : ℕ) (es : List Entry) → fits size es ≡ fitsBy length size (bytesOf es)
+pub fits-bytes : (size : ℕ) (es : List Entry) → fits size es ≡ fitsBy length size (entryBytes es)
 unfolding fitsBy
 fits-bytes size [] = refl
 fits-bytes size (e ∷ es) =

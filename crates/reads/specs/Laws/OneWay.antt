@@ -31,7 +31,7 @@ use Rattle.reads.specs.Laws.Entries.{fits-first, wantedIn, order-wanted}
 use Rattle.reads.specs.Laws.Counting.{answered-advances}
 use Rattle.reads.specs.Laws.Reading.{not-sequential}
 use Rattle.reads.specs.Laws.Seeking.{entries-append}
-use Rattle.reads.specs.Laws.Between.{metEntries, bytesOf, met-bytes, joined-bytes, take-bytes, fits-bytes, through-exist, reached-through, placeBehind, ending-moved, ahead-moved}
+use Rattle.reads.specs.Laws.Between.{metEntries, entryBytes, met-bytes, joined-bytes, take-bytes, fits-bytes, through-exist, reached-through, placeBehind, ending-moved, ahead-moved}
 
 -- ---- records up to a wanted one
 
@@ -110,8 +110,8 @@ module _ (types : ℕ) (d : Direction) (rs : List (List ℕ)) (room : ℕ) where
   met-R : wantedIn types (metEntries d (placeBehind rs n0) A) ≡ R
   met-R = ap (wantedIn types) (met-order d) ∙ order-wanted types d rs
 
-  bytes-R : bytesOf R ≡ only (wantedBytes types) A
-  bytes-R = ap bytesOf (sym met-R) ∙ met-bytes d types (placeBehind rs n0) A
+  bytes-R : entryBytes R ≡ only (wantedBytes types) A
+  bytes-R = ap entryBytes (sym met-R) ∙ met-bytes d types (placeBehind rs n0) A
 
   first-within : (d : Direction) → startsAt d rs Unset ≤ length rs
   first-within Forwards = omega arith
@@ -140,12 +140,12 @@ module _ (types : ℕ) (d : Direction) (rs : List (List ℕ)) (room : ℕ) where
   index-ahead : (c : ℕ) → recordsAhead d (index c) rs ≡ drop (through types c A) A
   index-ahead c = ahead-moved d n0 rs (through types c A) (first-within d) (through-exist types c A)
 
-  drop-bytes : (k : ℕ) (es : List Entry) → bytesOf (drop k es) ≡ drop k (bytesOf es)
+  drop-bytes : (k : ℕ) (es : List Entry) → entryBytes (drop k es) ≡ drop k (entryBytes es)
   drop-bytes zero es = refl
   drop-bytes (suc k) [] = refl
   drop-bytes (suc k) (e ∷ es) = drop-bytes k es
 
-  wanted-left : (c : ℕ) → only (wantedBytes types) (recordsAhead d (index c) rs) ≡ bytesOf (drop c R)
+  wanted-left : (c : ℕ) → only (wantedBytes types) (recordsAhead d (index c) rs) ≡ entryBytes (drop c R)
   wanted-left c =
       ap (only (wantedBytes types)) (index-ahead c)
       ∙ only-through types c A
@@ -183,7 +183,7 @@ module _ (types : ℕ) (d : Direction) (rs : List (List ℕ)) (room : ℕ) where
       }
 
   module _ (c : ℕ) (q : Read) where
-    next-counted : (es : List Entry) → readsAhead types d (at c) q (index c) (bytesOf es) ≡ counted (next types d R c q es)
+    next-counted : (es : List Entry) → readsAhead types d (at c) q (index c) (entryBytes es) ≡ counted (next types d R c q es)
     next-counted [] = refl
     next-counted (e ∷ es) = go (leb (length (e .bytes)) (q .size)) refl
       where
@@ -197,7 +197,7 @@ module _ (types : ℕ) (d : Direction) (rs : List (List ℕ)) (room : ℕ) where
         refuses = readRefused (at c) q 0xC0000023 (length (e .bytes))
 
         go : (b : Bool) → leb (length (e .bytes)) (q .size) ≡ b
-            → cond b (readCopies types d (at c) q (index c) (fitsBy length (q .size) (bytesOf all)) (join (take (fitsBy length (q .size) (bytesOf all)) (bytesOf all)))) refuses
+            → cond b (readCopies types d (at c) q (index c) (fitsBy length (q .size) (entryBytes all)) (join (take (fitsBy length (q .size) (entryBytes all)) (entryBytes all)))) refuses
             ≡ counted (cond b (model.reads types d R c q k (joined (take k all))) (unread types d R c q 0xC0000023 (length (e .bytes))))
         go false f = refl
         go true f =
@@ -207,7 +207,7 @@ module _ (types : ℕ) (d : Direction) (rs : List (List ℕ)) (room : ℕ) where
             ∙ ap (λ j. Behind (index (c + j))) first
             ∙ sym (cursor-add c (fits (q .size - length (e .bytes)) es))
             ∙ ap (λ j. cursorAt (c + j)) (sym first) in
-            ap (λ j. readCopies types d (at c) q (index c) j (join (take j (bytesOf all)))) (sym (fits-bytes (q .size) all))
+            ap (λ j. readCopies types d (at c) q (index c) j (join (take j (entryBytes all)))) (sym (fits-bytes (q .size) all))
             ∙ ap₂ (λ (bytes : List ℕ) (x : Cursor). record {
               answer = ReadAnswer 0 (length bytes) 0 (bytes ++ drop (length bytes) (q .output));
               state = record { records = rs; cursor = x; room = room };

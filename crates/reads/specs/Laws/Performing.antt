@@ -47,7 +47,7 @@ use Rattle.reads.specs.Operations as model
 use Rattle.reads.specs.Calls.{Handed, Result, ReadResult, AppendResult, result, handedOn, results, handedAfter, placeAt, handleAt, bufferWith, handedAt, shownResult}
 use Rattle.reads.specs.Laws.Entries.{fits-first, success, answerAhead, read-stands, wantedIn}
 use Rattle.reads.specs.Laws.Counting.{place-inside, fits-exist}
-use Rattle.reads.specs.Laws.Between.{metEntries, met-stands, bytesOf, met-bytes, joined-bytes, take-bytes, fits-bytes, through-exist, reached-through, placeBehind, place-inside-log, ahead-line, all-ahead, starts-within, seeks-within, ending-moved}
+use Rattle.reads.specs.Laws.Between.{metEntries, met-stands, entryBytes, met-bytes, joined-bytes, take-bytes, fits-bytes, through-exist, reached-through, placeBehind, place-inside-log, ahead-line, all-ahead, starts-within, seeks-within, ending-moved}
 
 -- ---- where a seek starts
 
@@ -120,7 +120,7 @@ module _ (w types : ℕ) (lent : List ℕ) (m : State) (pos : zero < w) (y : Pro
     -- of these wanted records ahead
     ahead-outcome : (d : Direction) (n : ℕ) (es : List Entry)
         → ((k : ℕ) → suc k ≤ length es → reached d (h .place) (take (suc k) es) ≡ Boundary (placeBehind rs (moved d n (through types (suc k) (recordsAhead d n rs)))))
-        → ReadResult (answerAhead d (q .size) h (q .output) es) ≡ shownResult types lent (readsAhead types d m q n (bytesOf es))
+        → ReadResult (answerAhead d (q .size) h (q .output) es) ≡ shownResult types lent (readsAhead types d m q n (entryBytes es))
     ahead-outcome d n [] stands = refl
     ahead-outcome d n (e ∷ es) stands = go (leb (length (e .bytes)) (q .size)) refl
       where
@@ -131,14 +131,14 @@ module _ (w types : ℕ) (lent : List ℕ) (m : State) (pos : zero < w) (y : Pro
         k = fits (q .size) all
 
         copies : ℕ → Result
-        copies j = shownResult types lent (readCopies types d m q n j (join (take j (bytesOf all))))
+        copies j = shownResult types lent (readCopies types d m q n j (join (take j (entryBytes all))))
 
         refuses : Served
         refuses = refused bufferTooSmall (length (e .bytes)) h (q .output)
 
         go : (b : Bool) → leb (length (e .bytes)) (q .size) ≡ b
             → ReadResult (cond b (success (reached d (h .place) (take k all)) types (joined (take k all)) (q .output)) refuses)
-            ≡ shownResult types lent (cond b (readCopies types d m q n (fitsBy length (q .size) (bytesOf all)) (join (take (fitsBy length (q .size) (bytesOf all)) (bytesOf all)))) (readRefused m q 0xC0000023 (length (e .bytes))))
+            ≡ shownResult types lent (cond b (readCopies types d m q n (fitsBy length (q .size) (entryBytes all)) (join (take (fitsBy length (q .size) (entryBytes all)) (entryBytes all)))) (readRefused m q 0xC0000023 (length (e .bytes))))
         go false f = refl
         go true f =
             let first = fits-first (q .size) e es f in
