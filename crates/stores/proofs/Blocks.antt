@@ -9,7 +9,7 @@ use lib.ListN.{length, take, drop, length-append, length-drop, take-append-drop}
 use lib.Seq.{length-take-le, take-at, take-all, drop-at, drop-drop, drop-length, take-add}
 use Rattle.format.specs.Bytes.{part}
 use Rattle.format.specs.Stores.{over}
-use Rattle.format.specs.Laws.Stores.{length-over, over-then, Stored}
+use Rattle.format.specs.Laws.Stores.{length-over, over-then, Stored, stored-then}
 use Rattle.stores.specs.Laws.{StoredPart}
 
 -- how many bytes are lent from a place to a place
@@ -62,6 +62,17 @@ stored-twice t s m {l} {at} h high room x y =
           ∙ over-then l at u (drop s t) (omega (arith, ulong, rest, room))
           ∙ ap (over l at) (take-append-drop s t);
     }
+
+-- the first i bytes of t, and then the n after them
+pub stored-next : (t : List ℕ) (i n : ℕ) {l l₁ l₂ : List ℕ} {at q r : ℕ} → i + n ≤ length t → at + length t ≤ length l
+    → Stored l at (take i t) q l₁ → Stored l₁ (at + i) (part i n t) r l₂ → Stored l at (take (i + n) t) (at + (i + n)) l₂
+stored-next t i n {l} {l₁} {l₂} {at} {q} {r} h room x y =
+    let first : length (take i t) ≡ i = length-take-le i t (omega (arith, h)) in
+    let next : length (part i n t) ≡ n = length-take-le n (drop i t) (omega (arith, h, length-drop i t)) in
+    let both : length (take (i + n) t) ≡ i + n = length-take-le (i + n) t h in
+    let z : Stored l at (take i t ++ part i n t) r l₂ =
+    stored-then (omega (arith, first, next, h, room)) x (subst (λ p. Stored l₁ p (part i n t) r l₂) (sym (x .place ∙ ap (λ k. at + k) first)) y) in
+    record { place = sym (ap (λ k. at + k) both); bytes = z .bytes ∙ ap (over l at) (sym (take-add i n t)) }
 
 -- the part at the start of t
 pub stored-first : {l m t : List ℕ} {at n q : ℕ} → StoredPart l at t 0 n q m → Stored l at (take n t) q m

@@ -23,8 +23,11 @@ fn copy(out: &mut [u8], at: usize, t: &[u8]) -> usize
 // How many bytes the compiler's copying loop moves at once.
 const BLOCK: usize = 32;
 
-// From so many bytes on it pays to start at a multiple of a block.
+// From so many bytes on the C library copies faster.
 const LONG: usize = 256;
+
+// How many bytes it is asked to copy at once, at most.
+const PAGE: usize = 65536;
 
 // The same by way of b. All bytes are read before the first is written, so that the compiler moves them at
 // once: it need not ask whether the output lies over t.
@@ -83,16 +86,28 @@ fn copy_whole(out: &mut [u8], at: usize, t: &[u8]) -> usize
     copy_block(out, at, t, n - BLOCK, BLOCK)
 }
 
-// The same with all blocks but the first and the last at places that are multiples of a block: where the output
-// starts at such an address, none of them lies across two lines of the processor's cache.
-fn copy_long(out: &mut [u8], at: usize, t: &[u8]) -> usize
-    requires { ⌜ (64 ≤ length (now t)) × (at + length (now t) ≤ length (now out)) ⌝ }
+// The same of a page at most. The compiler makes one call of the C library's `memmove` of it, and no buffer.
+fn copy_page(out: &mut [u8], at: usize, t: &[u8]) -> usize
+    requires { ⌜ (length (now t) ≤ 65536) × (at + length (now t) ≤ length (now out)) ⌝ }
     ensures { λ r. ⌜ Stored (now (out .entry)) at (now (t .entry)) r (now (out .exit)) ⌝ }
 {
+    let mut b = [0u8; PAGE];
     let n = t.len();
-    let skip = BLOCK - at % BLOCK;
-    copy_block(out, at, t, 0, BLOCK);
-    copy_whole(out, at + skip, &t[skip..n])
+    copy_through(out, at, t, &mut b[..n])
+}
+
+// Many bytes, as whole pages and the rest.
+fn copy_long(out: &mut [u8], at: usize, t: &[u8]) -> usize
+    requires { ⌜ at + length (now t) ≤ length (now out) ⌝ }
+    ensures { λ r. ⌜ Stored (now (out .entry)) at (now (t .entry)) r (now (out .exit)) ⌝ }
+{
+    let mut i = 0;
+    while PAGE < t.len() - i {
+        let to = i + PAGE;
+        copy_page(out, at + i, &t[i..to]);
+        i += PAGE;
+    }
+    copy_page(out, at + i, &t[i..])
 }
 
 // All of t.

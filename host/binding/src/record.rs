@@ -245,7 +245,9 @@ pub fn string_refusal(edition: Edition, buffer: &[u8], at: usize, k: u32) -> Opt
     Refused::from_numbers(refused.refusal, refused.field)
 }
 
-#[inline]
+/// What a step answered, as Rust has it. Compiled into the caller, so that a record is made where it is kept: else it is
+/// copied, right after it was stored.
+#[inline(always)]
 fn record<'a>(
     edition: Edition,
     buffer: &'a [u8],
