@@ -35,7 +35,7 @@ fn write(q: &[u8], out: &mut [u8]) -> Written {
 }
 
 fn refusal(q: &[u8]) -> u32 {
-    event::refusal(
+    let c = event::check(
         Edition::Unicode,
         numbers(field(q, 1)),
         field(q, 2),
@@ -43,7 +43,8 @@ fn refusal(q: &[u8]) -> u32 {
         field(q, 4),
         field(q, 5),
         field(q, 6),
-    )
+    );
+    c.refusal
 }
 
 // Into a buffer of 120 bytes.

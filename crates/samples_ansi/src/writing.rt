@@ -41,7 +41,7 @@ fn write(q: &[u8], out: &mut [u8]) -> Written {
 }
 
 fn refusal(e: Edition, q: &[u8]) -> u32 {
-    event::refusal(
+    let c = event::check(
         e,
         numbers(field(q, 1)),
         field(q, 2),
@@ -49,7 +49,8 @@ fn refusal(e: Edition, q: &[u8]) -> u32 {
         field(q, 4),
         field(q, 5),
         field(q, 6),
-    )
+    );
+    c.refusal
 }
 
 // Into a buffer of 104 bytes.
@@ -120,7 +121,8 @@ a SID of 7 bytes|7,0,1|||\x01\0\0\0\0\0\0
 // An event with no parts but data.
 fn data_refusal(e: Edition, event_data: &[u8]) -> u64 {
     let none: &[u8] = b"";
-    event::refusal(e, numbers(b"7"), none, none, none, none, event_data) as u64
+    let c = event::check(e, numbers(b"7"), none, none, none, none, event_data);
+    c.refusal as u64
 }
 
 fn most_data(event_data: &[u8; 61441]) {
