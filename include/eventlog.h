@@ -7,10 +7,11 @@
  *
  * Every call is thread-safe: the library has no variables of its own, so calls may run at the same time,
  * except that nobody else may use a buffer while a call writes to it. Nothing is allocated, no other
- * library is needed but for the C library's memset, and no call waits. A call takes at most EVENTLOG_MAX_STACK
- * bytes of stack below its caller's frame. That was measured: tests/stack.c runs each call on a painted
- * stack, looks how much of the paint is gone, and holds every call to half of that number. A listing goes
- * deeper with each digit of a number; there the longest has ten of the twenty that a number can have.
+ * library is needed but for the C library's memset and memmove, and no call waits. A call takes at most
+ * EVENTLOG_MAX_STACK bytes of stack below its caller's frame. That was measured: tests/stack.c runs each
+ * call on a painted stack, looks how much of the paint is gone, and holds every call to half of that
+ * number. A listing goes deeper with each digit of a number; there the longest has ten of the twenty that
+ * a number can have.
  *
  * The rules that are named here by their numbers stand in docs/SPECIFICATION.md.
  *

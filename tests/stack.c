@@ -7,7 +7,8 @@
 #include <string.h>
 #include <ucontext.h>
 
-enum { STACK = 64 * 1024, PAINT = 0xA5 };
+/* With room for the buffer of `stores: copy_page`, which the compiler is to leave out: it would be seen here. */
+enum { STACK = 256 * 1024, PAINT = 0xA5 };
 
 static uint8_t stack[STACK];
 static ucontext_t here, there;

@@ -343,15 +343,23 @@ macro_rules! ordinary {
                 $library::string(edition(e), record, 0, k).len()
             }
 
-            /// As a call, as the proved ones are.
+            /// A call that answers a length, as the proved one does.
             #[inline(never)]
-            pub fn name_end(t: &[u8]) -> usize {
-                $library::after_zero_units::<2>(t, 0, 1).unwrap_or(0)
+            fn text_len(t: &[u8]) -> usize {
+                $library::after_zero_units::<2>(t, 0, 1).unwrap_or(2) - 2
             }
 
             #[inline(never)]
-            pub fn strings_end(t: &[u8], count: u32) -> usize {
+            fn run_end(t: &[u8], count: u32) -> usize {
                 $library::after_zero_units::<2>(t, 0, count as usize).unwrap_or(0)
+            }
+
+            pub fn name_end(t: &[u8]) -> usize {
+                text_len(t) + 2
+            }
+
+            pub fn strings_end(t: &[u8], count: u32) -> usize {
+                run_end(t, count)
             }
         }
     };
