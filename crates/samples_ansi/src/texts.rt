@@ -1,5 +1,6 @@
-// Units, texts and strings (Rules 3.2 to 3.8). In ANSI the search passes blocks of 16 bytes, then of 4, and then goes
-// byte by byte: a zero byte is asked for at each place around them.
+// Units, texts and strings (Rules 3.2 to 3.8). In ANSI the search goes by words, by blocks of 32 bytes and byte by byte: a zero
+// byte is asked for at each place around them. A run of strings is passed by blocks of 16, 64 and 128 bytes, and searched by
+// words: ends are asked for before and after bytes 512 and 640.
 
 use crate::Kind;
 use crate::ask;
@@ -21,6 +22,7 @@ use runs::Found;
 use runs::strings_end;
 use stores::put;
 use text::ansi_len;
+use text::ansi_word_len;
 use text::text_len;
 use text::unicode_len;
 use text::width;
@@ -59,35 +61,52 @@ of four units, the first 0x8000, the third zero|\0\x80A\0\0\0AA
     );
 }
 
-// A text of so many bytes with a zero byte at a place, by the search of texts or by that of names; with none where the
-// place is not before its end.
-fn found(name: bool, n: usize, at: usize) -> u64 {
-    let mut s = [1u8; 40];
-    put(&mut s, at, b"\0");
-    if name {
-        return ansi_len(part(&s, 0, n)) as u64;
-    }
-    text_len(Edition::Ansi, part(&s, 0, n)) as u64
+// The searches.
+enum Search {
+    Text,
+    Name,
+    Word,
 }
 
-// Its length with a zero byte at each place, and with none.
-fn zero_at_each_place(name: bool, n: usize) {
+// So many bytes with a zero byte at a place, by a search; with none where the place is not before their end.
+fn found(by: Search, n: usize, at: usize) -> u64 {
+    let mut s = [1u8; 40];
+    put(&mut s, at, b"\0");
+    match by {
+        Search::Text => text_len(Edition::Ansi, part(&s, 0, n)) as u64,
+        Search::Name => ansi_len(part(&s, 0, n)) as u64,
+        Search::Word => ansi_word_len(part(&s, 0, n)) as u64,
+    }
+}
+
+// Its answer with a zero byte at each place, and with none.
+fn zero_at_each_place(by: Search, n: usize) {
     start(b"  zero bytes at each place");
     let mut at = 0;
     while at < n {
-        number(found(name, n, at));
+        number(found(by, n, at));
         at += 1;
     }
-    number(found(name, n, n));
+    number(found(by, n, n));
     end();
 }
 
-fn texts_of_each_length(name: bool) {
+fn texts_of_each_length(by: Search) {
     let mut n = 0;
     while n < 41 {
-        zero_at_each_place(name, n);
+        zero_at_each_place(by, n);
         n += 1;
     }
+}
+
+fn words() {
+    start(b"the first word of 0, 7, 8, 9 and 17 bytes");
+    end();
+    zero_at_each_place(Search::Word, 0);
+    zero_at_each_place(Search::Word, 7);
+    zero_at_each_place(Search::Word, 8);
+    zero_at_each_place(Search::Word, 9);
+    zero_at_each_place(Search::Word, 17);
 }
 
 // 300 bytes with a zero byte at a place, by both searches.
@@ -102,8 +121,8 @@ pub fn long_lengths(q: &[u8]) {
 }
 
 fn long_texts() {
-    texts_of_each_length(false);
-    texts_of_each_length(true);
+    texts_of_each_length(Search::Text);
+    texts_of_each_length(Search::Name);
     ask(
         Kind::LongLengths,
         b"\
@@ -168,6 +187,43 @@ pub fn ends(q: &[u8]) {
     end();
 }
 
+// Puts these bytes over the others again and again, as often as there is room.
+fn fill(out: &mut [u8], t: &[u8]) {
+    let mut at = 0usize;
+    let mut k = 0usize;
+    while k < 350 {
+        at = put(out, at, t);
+        k += 1;
+    }
+}
+
+// 700 bytes of these strings again and again, and numbers of strings.
+pub fn long_ends(q: &[u8]) {
+    let mut s = [1u8; 700];
+    fill(&mut s, field(q, 1));
+    start(what(q));
+    let n = fields(q);
+    let mut k = 1usize;
+    while k < n {
+        k += 1;
+        number(end_in(&s, number32(q, k)));
+    }
+    end();
+}
+
+fn long_runs() {
+    ask(
+        Kind::LongEnds,
+        b"\
+strings of 1 in 700 bytes|A\0|256|257|320|321|350|351
+strings of 8 in 700 bytes|ABCDEFGH\0|56|57|71|72|77|78
+strings of 1 to 20 in 700 bytes|A\0AB\0ABC\0ABCD\0ABCDE\0ABCDEF\0ABCDEFG\0ABCDEFGH\0ABCDEFGHI\0ABCDEFGHIJ\0\
+ABCDEFGHIJK\0ABCDEFGHIJKL\0ABCDEFGHIJKLM\0ABCDEFGHIJKLMN\0ABCDEFGHIJKLMNO\0\
+ABCDEFGHIJKLMNOP\0ABCDEFGHIJKLMNOPQ\0ABCDEFGHIJKLMNOPQR\0ABCDEFGHIJKLMNOPQRS\0ABCDEFGHIJKLMNOPQRST\0|11|40|41|55|60|61
+",
+    );
+}
+
 fn strings() {
     ask(
         Kind::EndsOf,
@@ -198,5 +254,7 @@ pub fn texts() {
     topic(b"texts and strings");
     short_texts();
     long_texts();
+    words();
     strings();
+    long_runs();
 }

@@ -6,10 +6,10 @@ use Rattle.samples_ansi.proofs.texts.texts_of_each_length.Statement.{st
 use Rattle.samples_ansi.proofs.texts.texts_of_each_length.Tie as tie
 
 abbrev Inv-loop : tie.InvT-loop
-Inv-loop name n₀ n = n ≤ 41
+Inv-loop by n₀ n = n ≤ 41
 
 abbrev μ-loop : tie.MeasureT-loop
-μ-loop name n₀ n = 41 - n
+μ-loop by n₀ n = 41 - n
 
 pub texts-of-each-length-spec : {M : Type 1} → statement M
 texts-of-each-length-spec =

@@ -6,10 +6,10 @@ use Rattle.samples_ansi.proofs.texts.zero_at_each_place.Statement.{stat
 use Rattle.samples_ansi.proofs.texts.zero_at_each_place.Tie as tie
 
 abbrev Inv-loop : tie.InvT-loop
-Inv-loop name n at₀ at = at ≤ n
+Inv-loop by n at₀ at = at ≤ n
 
 abbrev μ-loop : tie.MeasureT-loop
-μ-loop name n at₀ at = n - at
+μ-loop by n at₀ at = n - at
 
 pub zero-at-each-place-spec : {M : Type 1} → statement M
 zero-at-each-place-spec =
