@@ -245,8 +245,11 @@ pub fn string_refusal(edition: Edition, buffer: &[u8], at: usize, k: u32) -> Opt
     Refused::from_numbers(refused.refusal, refused.field)
 }
 
-/// What a step answered, as Rust has it. Compiled into the caller, so that a record is made where it is kept: else it is
-/// copied, right after it was stored.
+/// What a step answered, as Rust has it.
+#[expect(
+    clippy::inline_always,
+    reason = "the record is then made where it is kept; else it is copied right after it was stored"
+)]
 #[inline(always)]
 fn record<'a>(
     edition: Edition,
