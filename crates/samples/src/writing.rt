@@ -150,7 +150,7 @@ fn lengths_refused() {
     ask(
         Kind::Long,
         b"\
-Length 65536|4032|61440|65540
+Length 24096|4032|20000|65540
 61441 bytes of data|0|61441|65540
 262100 bytes of data, Length over the limit|0|262100|65540
 68 bytes into 68|4|0|68
