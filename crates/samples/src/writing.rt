@@ -95,6 +95,8 @@ type 3, flags 1|7,3,0,1
 flags 1, 257 strings|7,0,257,1
 a source name of 3 bytes|7|A\0B
 a source name with a zero unit|7|A\0\0\0B\0
+a source name with a zero unit in its first word|7|A\0B\0\0\0C\0D\0
+a source name with a zero unit after its first word|7|A\0B\0C\0D\0\0\0
 a source name that ends in a zero unit|7|A\0\0\0
 a computer name of 1 byte|7||A
 a computer name that is a zero unit|7||\0\0
