@@ -431,7 +431,7 @@ eventlog_answer eventlog_read(uint32_t edition, eventlog_handle handle, const ui
  * and no zero byte follows. An output that is shorter than the text is refused with 15 and length 0, and left as it
  * was. Else the output past the text is left. EVENTLOG_LISTING_ROOM bytes more than the batch are always enough.
  * The listing program lists Unicode.
- * Cost: the records are walked over twice, once to measure the text. */
+ * Cost: as eventlog_walk, to judge the records and measure the text; then their Lengths and numbers are read again. */
 eventlog_written eventlog_listing(uint32_t edition, const uint8_t *buffer, size_t buffer_len, uint8_t *out,
                                   size_t out_len);
 

@@ -183,8 +183,8 @@ pub fn step_back(edition: Edition, buffer: &[u8], end: usize) -> Result<Record<'
     record(edition, buffer, &ffi::step_back(edition, buffer, end))
 }
 
-/// Why the record that starts at `at` is refused, if it is. This costs less
-/// than a [`step`], which looks for the parts a second time.
+/// Why the record that starts at `at` is refused, if it is. This costs a little
+/// less than a [`step`], which shows the record too.
 ///
 /// ```
 /// use eventlog::{refusal, write, Edition::Unicode, Event, Refusal};
