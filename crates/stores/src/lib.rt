@@ -24,7 +24,7 @@ fn copy(out: &mut [u8], at: usize, t: &[u8]) -> usize
 const BLOCK: usize = 32;
 
 // From so many bytes on the C library copies faster.
-const LONG: usize = 256;
+const LONG: usize = 512;
 
 // How many bytes it is asked to copy at once, at most.
 const PAGE: usize = 65536;
