@@ -6,8 +6,8 @@ use Rattle.format.specs.declared.Direction.the-variants.{Forwards}
 use Rattle.format.specs.Text.{width}
 use Rattle.format.specs.Walk.{trace}
 use Rattle.walk.specs.Ended.{stopOf}
-use Rattle.eventlog_batches.proofs.eventlog_walk.Statement.{statement}
-use Rattle.eventlog_batches.proofs.eventlog_walk.Tie as tie
+use Rattle.eventlog_front.proofs.eventlog_walk.Statement.{statement}
+use Rattle.eventlog_front.proofs.eventlog_walk.Tie as tie
 
 returns : tie.Need-returns
 returns c =

@@ -4,8 +4,8 @@ use borrow.Author.Needs.{needs}
 use Rattle.format.specs.declared.Edition.{Edition}
 use Rattle.format.specs.Text.{width}
 use Rattle.listing.specs.Listing.{listing}
-use Rattle.eventlog_batches.proofs.eventlog_listing.Statement.{statement}
-use Rattle.eventlog_batches.proofs.eventlog_listing.Tie as tie
+use Rattle.eventlog_listings.proofs.eventlog_listing.Statement.{statement}
+use Rattle.eventlog_listings.proofs.eventlog_listing.Tie as tie
 
 returns : tie.Need-returns
 returns c =
