@@ -1,8 +1,10 @@
 #!/usr/bin/env bash
 # Proves the calls for C and joins their objects to one static library, target/staticlib/libeventlog.a:
 #     bash library.sh
-# The calls are the crates of crates.txt whose names begin with eventlog_. It says nothing unless one is not proved,
-# and then there is no library.
+# The calls are the crates of crates.txt whose names begin with eventlog_, one object each. A call that steps, walks,
+# lists, writes or appends is alone in its crate: in one object two calls would share the judge, which would then be a
+# call and not be compiled into the caller (docs/DECISIONS.md). It says nothing unless one is not proved, and then there
+# is no library.
 set -euo pipefail
 cd "$(dirname "$0")"
 mapfile -t crates < <(sed -n 's/^\(eventlog_[^:]*\):.*/\1/p' crates.txt | LC_ALL=C sort)

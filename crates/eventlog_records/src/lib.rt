@@ -1,64 +1,16 @@
-// The calls for programs in C and Rust on one record: steps, refusals and strings (section 4). A slice crosses as its
-// pointer and its length, a struct by value. Each function answers what the call below it answers.
+// The calls for programs in C and Rust on one record: refusals and strings (section 4). A slice crosses as its pointer
+// and its length, a struct by value. Each function answers what the call below it answers.
 
 use edition::edition_of;
 use format::Part;
-use format::Record;
 use format::Refusal;
-use format::Step;
 use strings::NextString;
 ghost use mathlib.Core.Path.{_≡_};
-ghost use Rattle.format.specs.declared.Direction.the-variants.{Forwards, Backwards};
-ghost use Rattle.format.specs.Judge.{refusalAt, stepAt};
+ghost use Rattle.format.specs.declared.Direction.the-variants.{Forwards};
+ghost use Rattle.format.specs.Judge.{refusalAt};
 ghost use Rattle.format.specs.Parts.{stringPart, stringRefusal};
 ghost use Rattle.edition.specs.Editions.{unitOf};
 ghost use Rattle.strings.specs.Next.{nextString};
-ghost use Rattle.eventlog_records.specs.Steps.{stepped};
-
-// What a step answers: the refusal, number and field 0 for none, and the place that was asked for; and the
-// record, all 0 where it is refused.
-#[repr(C)]
-pub struct Stepped {
-    pub refusal: Refusal,
-    pub at: usize,
-    pub found: Record,
-}
-
-fn stepped_of(x: Step, at: usize) -> Stepped
-    ensures { λ r. ⌜ r ≡ stepped x at ⌝ }
-{
-    match x {
-        Step::Found(a) => Stepped {
-            refusal: Refusal {
-                number: 0,
-                field: 0,
-            },
-            at: at,
-            found: a,
-        },
-        Step::Refused { refusal: k, at: _ } => Stepped {
-            refusal: k,
-            at: at,
-            found: parts::nothing(),
-        },
-    }
-}
-
-// The record that starts at a place.
-#[no_mangle]
-pub extern "C" fn eventlog_step(edition: u32, s: &[u8], at: usize) -> Stepped
-    ensures { λ r. ⌜ r ≡ stepped (stepAt Forwards (unitOf edition) (now (s .entry)) at) at ⌝ }
-{
-    stepped_of(record::step(edition_of(edition), s, at), at)
-}
-
-// The record that ends at a place.
-#[no_mangle]
-pub extern "C" fn eventlog_step_back(edition: u32, s: &[u8], end: usize) -> Stepped
-    ensures { λ r. ⌜ r ≡ stepped (stepAt Backwards (unitOf edition) (now (s .entry)) end) end ⌝ }
-{
-    stepped_of(record::step_back(edition_of(edition), s, end), end)
-}
 
 // The refusal of the record at a place; number and field are 0 where nothing is refused.
 #[no_mangle]

@@ -20,22 +20,22 @@ use crate::table::field;
 use crate::table::number;
 use crate::table::number32;
 use crate::table::what;
-use eventlog_front::eventlog_walk;
-use eventlog_listings::eventlog_listing;
-use eventlog_rear::eventlog_walk_back;
-use eventlog_records::Stepped;
+use eventlog_append::eventlog_append;
+use eventlog_listing::eventlog_listing;
 use eventlog_records::eventlog_next_string;
 use eventlog_records::eventlog_refusal;
-use eventlog_records::eventlog_step;
-use eventlog_records::eventlog_step_back;
 use eventlog_records::eventlog_string;
 use eventlog_records::eventlog_string_refusal;
 use eventlog_serving::ReadHandle;
 use eventlog_serving::eventlog_fresh;
 use eventlog_serving::eventlog_read;
-use eventlog_writing::eventlog_append;
-use eventlog_writing::eventlog_write;
+use eventlog_step::eventlog_step;
+use eventlog_step_back::eventlog_step_back;
+use eventlog_walk::eventlog_walk;
+use eventlog_walk_back::eventlog_walk_back;
+use eventlog_write::eventlog_write;
 use format::Part;
+use stepped::Stepped;
 use stores::put;
 
 fn stepped(what: &[u8], x: Stepped) {
@@ -63,6 +63,7 @@ fn steps() {
         b"\
 step at 168|168
 step at 65|65
+step at 60|60
 ",
     );
     ask(
