@@ -21,16 +21,18 @@ use inputs::Inputs;
 use measure::{BUDGET, LEAST, MOST};
 use rows::Tables;
 
-/// All is measured so many times, one table after the other.
+/// All is measured so many times, one table after the other,
 const RUNS: usize = 3;
+/// and a run goes over all rows so many times.
+const PASSES: usize = 5;
 
 /// What the tables say of themselves.
 fn preface() -> String {
     let seconds = BUDGET.as_secs_f64();
     format!(
-        "Ranges over {RUNS} runs. A run has the minima of {LEAST} to {MOST} rounds, as many as take about {seconds} seconds
-of the processor's time. In each round all versions are measured in turn, on the same input. Rows without an edition are
-in Unicode.
+        "Ranges over {RUNS} runs. A run goes over all rows {PASSES} times, and has the minima of all rounds. A row has {LEAST} to {MOST}
+rounds each time, as many as take about {seconds} seconds of the processor's time. In a round all versions are measured in turn, on the
+same input. Rows without an edition are in Unicode.
 
 - **Batches** have 16 MiB, in records of about the size that the row says, of the six types in turn.
 - **Reads** ask for 64 KiB; those of records of 256 KiB for 524,287 bytes, the most that a read may; those of one record
@@ -70,7 +72,7 @@ fn main() -> io::Result<()> {
     let mut tables = Tables::new(&words);
     for run in 1..=RUNS {
         eprintln!("run {run} of {RUNS}");
-        tables.run(&inputs);
+        tables.run(&inputs, PASSES);
     }
     print!("{}{}", preface(), tables.markdown());
     match folder {

@@ -4,8 +4,8 @@ use std::time::Duration;
 
 use crate::clock;
 
-/// A row is measured for about so long, all versions together,
-pub const BUDGET: Duration = Duration::from_millis(500);
+/// A row is measured for about so long at once, all versions together,
+pub const BUDGET: Duration = Duration::from_millis(200);
 /// but in so many rounds at least, and in so many at most.
 pub const LEAST: usize = 10;
 pub const MOST: usize = 400;

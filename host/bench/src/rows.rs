@@ -51,8 +51,20 @@ impl Tables {
         }
     }
 
+    /// One run: goes over everything so many times, and keeps the least times. So a
+    /// row is not measured at one moment only, nor with its outputs at one place.
+    pub fn run(&mut self, inputs: &Inputs, passes: usize) {
+        self.calls.next_run();
+        self.growth.next_run();
+        self.strings.next_run();
+        self.searches.next_run();
+        for _ in 0..passes {
+            self.pass(inputs);
+        }
+    }
+
     /// Measures everything once.
-    pub fn run(&mut self, inputs: &Inputs) {
+    fn pass(&mut self, inputs: &Inputs) {
         let calls = &mut self.calls;
         batches::walks_and_reads(calls, &inputs.batches);
         batches::one_by_one(calls, inputs.some_batches());

@@ -1,5 +1,7 @@
 //! Rows of what was measured, and their table in Markdown.
 
+use std::array;
+
 use crate::chart::Bar;
 use crate::measure::minima;
 
@@ -26,6 +28,8 @@ pub struct Table<const N: usize> {
     unit: f64,
     versions: [&'static str; N],
     only: Vec<String>,
+    /// How many runs there were, with this one.
+    run: usize,
     rows: Vec<Row<N>>,
 }
 
@@ -43,6 +47,7 @@ impl<const N: usize> Table<N> {
             unit,
             versions,
             only: only.to_vec(),
+            run: 0,
             rows: Vec::new(),
         }
     }
@@ -53,8 +58,13 @@ impl<const N: usize> Table<N> {
         self.only.is_empty() || self.only.iter().any(|word| name.contains(word))
     }
 
-    /// Measures a row, once more where it was measured before. Each work does
-    /// `parts` of what is shown.
+    /// What is measured from now on belongs to another run.
+    pub fn next_run(&mut self) {
+        self.run += 1;
+    }
+
+    /// Measures a row. A row that was measured in this run before keeps the least
+    /// times. Each work does `parts` of what is shown.
     pub fn row<F: FnMut() -> usize>(
         &mut self,
         kind: &'static str,
@@ -68,6 +78,11 @@ impl<const N: usize> Table<N> {
         let times = minima(&name(kind, on), &mut works).map(|time| time / parts as f64);
         let mut rows = self.rows.iter_mut();
         match rows.find(|row| (row.kind, &row.on[..]) == (kind, on)) {
+            Some(row) if row.runs.len() == self.run => {
+                if let Some(least) = row.runs.last_mut() {
+                    *least = array::from_fn(|i| times[i].min(least[i]));
+                }
+            }
             Some(row) => row.runs.push(times),
             None => self.rows.push(Row {
                 kind,
