@@ -15,7 +15,7 @@ use serve::{Handle, Place};
 // A read handle: 0 for a fresh one, else a boundary; the set of types that are wanted; and the boundary's byte
 // position.
 #[repr(C)]
-#[derive(Drop)]
+#[derive(Clone, Copy)]
 pub struct ReadHandle {
     pub kind: u32,
     pub types: u32,
@@ -24,7 +24,7 @@ pub struct ReadHandle {
 
 // What a read answers.
 #[repr(C)]
-#[derive(Drop)]
+#[derive(Clone, Copy)]
 pub struct ReadAnswer {
     pub status: u32,
     pub read: usize,

@@ -24,7 +24,7 @@ use table::{field, find, nth, nth16, what};
 use values::yes;
 
 // The kinds of questions. What the fields of a line are, the function says that answers it.
-#[derive(Drop)]
+#[derive(Clone, Copy)]
 enum Kind {
     Put,
     PutLong,
@@ -111,7 +111,7 @@ fn ask(kind: Kind, table: &[u8]) {
 }
 
 // The calls that answer a number: each field of a line is a question.
-#[derive(Drop)]
+#[derive(Clone, Copy)]
 enum Value {
     Unit,
     TwoAt,

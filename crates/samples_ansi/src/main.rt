@@ -19,7 +19,7 @@ use records::part;
 use table::find;
 
 // The kinds of questions. What the fields of a line are, the function says that answers it.
-#[derive(Drop)]
+#[derive(Clone, Copy)]
 enum Kind {
     Lengths,
     LongLengths,

@@ -46,7 +46,7 @@ of four units, the first 0x8000, the third zero|\0\x80A\0\0\0AA
 }
 
 // The searches.
-#[derive(Drop)]
+#[derive(Clone, Copy)]
 enum Search {
     Text,
     Name,

@@ -10,7 +10,7 @@ use format::{Record, Refusal, Step};
 // What a step answers: the refusal, number and field 0 for none, and the place that was asked for; and the
 // record, all 0 where it is refused.
 #[repr(C)]
-#[derive(Drop)]
+#[derive(Clone, Copy)]
 pub struct Stepped {
     pub refusal: Refusal,
     pub at: usize,
