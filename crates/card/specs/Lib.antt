@@ -4,6 +4,3 @@ pub mod Image
 pub mod Judging
 pub mod Calls
 pub mod Damage
-pub mod Laws
-pub mod Theorems
-pub mod Samples

@@ -1,9 +1,6 @@
 pub mod Ahead
 pub mod Calls
-pub mod Laws
 pub mod Model
 pub mod Operations
-pub mod Samples
 pub mod Series
-pub mod Theorems
 pub mod WithoutSets

@@ -9,7 +9,8 @@ use lib.ListN.{length, take, drop, length-append, length-drop, take-append-drop}
 use lib.Seq.{length-take-le, take_at, take_all, drop_at, drop-drop, drop-length, take-add}
 use Rattle.format.specs.Bytes.{part}
 use Rattle.format.specs.Stores.{over}
-use Rattle.format.specs.Laws.Stores.{length_over, over_then, Stored, stored_then}
+use Rattle.format.specs.Stores.{Stored}
+use Rattle.format.proofs.Laws.Stores.{length_over, over_then, stored_then}
 use Rattle.stores.specs.Laws.{StoredPart}
 
 -- how many bytes are lent from a place to a place

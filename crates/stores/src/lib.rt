@@ -3,7 +3,7 @@
 #![tactic(auto)]
 
 ghost use Rattle.std.specs.Prelude.{◌≡◌, ◌+◌, ◌≤◌, ◌<◌, length};
-ghost use Rattle.format.specs.Laws.Stores.{Stored};
+ghost use Rattle.format.specs.Stores.{Stored};
 ghost use Rattle.stores.specs.Putting.{placed, putting};
 ghost use Rattle.stores.specs.Laws.{StoredPart};
 

@@ -12,12 +12,12 @@ use lib.Seq.{drop-cons}
 use lib.Dec.{eqb, leb}
 use borrow.Author.Tests.{eqb-true, lt-ltb, le-ltb}
 use Rattle.format.specs.Good.{member}
-use Rattle.format.specs.Laws.Tests.{eqb_means, leb_means, or_means}
+use Rattle.format.proofs.Laws.Tests.{eqb_means, leb_means, or_means}
 use Rattle.windows_1252_table.specs.Table.{table, unit_of, byte_of}
 use Rattle.windows_1252_table.specs.Utf16.{units_in, all_in_table}
 use Rattle.windows_1252.specs.Code.{candidate_bytes, candidate_of}
-use Rattle.windows_1252_table.specs.Laws.Table.{every, every_at, table_long, byte_of_unit, unit_of_byte, byte_small, byte_missing}
-use Rattle.windows_1252_table.specs.Laws.Utf16.{length_units}
+use Rattle.windows_1252_table.proofs.Laws.Table.{every, every_at, table_long, byte_of_unit, unit_of_byte, byte_small, byte_missing}
+use Rattle.windows_1252_table.proofs.Laws.Utf16.{length_units}
 
 -- ---- units below 128
 

@@ -9,10 +9,10 @@ use lib.ListN.{length, get_or, take, drop, set}
 use lib.Seq.{take_all}
 use Rattle.format.specs.Stores.{over}
 use Rattle.format.specs.Writing.{outcome}
-use Rattle.format.specs.Laws.Stores.{over_nothing, over_next}
+use Rattle.format.proofs.Laws.Stores.{over_nothing, over_next}
 use Rattle.windows_1252_table.specs.Table.{table, unit_of, byte_of}
 use Rattle.windows_1252_table.specs.Utf16.{units_in, to_utf16, utf16_refusal, from_utf16}
-use Rattle.windows_1252_table.specs.Laws.Utf16.{length_to_utf16, to_low, to_high, from_at, accepted_byte}
+use Rattle.windows_1252_table.proofs.Laws.Utf16.{length_to_utf16, to_low, to_high, from_at, accepted_byte}
 use Rattle.windows_1252.specs.Theorems.{wrote}
 
 -- the output with the first n bytes of t over its start

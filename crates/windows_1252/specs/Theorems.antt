@@ -7,12 +7,12 @@ use Rattle.std.proofs.lemmas.Bool.{lt-leb}
 use Rattle.format.specs.Bytes.{IsBytes, All}
 use Rattle.format.specs.Good.{member}
 use Rattle.format.specs.Writing.{Output, outcome, writing_as}
-use Rattle.format.specs.Laws.Writing.{wrote as format-wrote, unwritten, writing_holds}
+use Rattle.format.proofs.Laws.Writing.{wrote as format-wrote, unwritten, writing_holds}
 use Rattle.windows_1252_table.specs.Table.{table, unit_of, byte_of}
 use Rattle.windows_1252_table.specs.Utf16.{unit_bytes, units_in, to_utf16, whole_test, utf16_refusal, from_utf16}
 use Rattle.windows_1252.specs.Calls.{writing_utf16, writing_bytes}
-use Rattle.windows_1252_table.specs.Laws.Table.{byte_of_unit}
-use Rattle.windows_1252_table.specs.Laws.Utf16.{bytes_back, accepted_whole, whole_accepted, length_to_utf16, length_from_utf16, run_whole, to_whole, there_back, back_there}
+use Rattle.windows_1252_table.proofs.Laws.Table.{byte_of_unit}
+use Rattle.windows_1252_table.proofs.Laws.Utf16.{bytes_back, accepted_whole, whole_accepted, length_to_utf16, length_from_utf16, run_whole, to_whole, there_back, back_there}
 
 -- ---- what a call answers, and its output afterwards
 

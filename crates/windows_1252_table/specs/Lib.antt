@@ -1,4 +1,2 @@
 pub mod Table
 pub mod Utf16
-pub mod Laws
-pub mod Samples

@@ -9,9 +9,9 @@ use lib.ListN.{length}
 use borrow.Author.Tests.{le-leb}
 use Rattle.format.specs.Layout.{max_length, Event, size}
 use Rattle.format.specs.Writing.{outcome, writing_as, written_sizes, written, event_rules, event_refusal, writing}
-use Rattle.format.specs.Laws.Stores.{Stored}
-use Rattle.format.specs.Laws.Tests.{leb_means, met}
-use Rattle.format.specs.Laws.Writing.{short_refused, stored_written}
+use Rattle.format.specs.Stores.{Stored}
+use Rattle.format.proofs.Laws.Tests.{leb_means, met}
+use Rattle.format.proofs.Laws.Writing.{short_refused, stored_written}
 use Rattle.places.specs.declared.Places.{Places}
 use Rattle.places.specs.Placing.{places_of, no_places, places_in, places_for}
 use Rattle.writer.specs.Room.{RoomFor}

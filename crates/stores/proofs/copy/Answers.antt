@@ -2,7 +2,7 @@ use mathlib.Core.Path.{refl, sym, ◌∙◌}
 use Prim.Native.Nat.{◌-◌}
 use native.Mathlib.Omega.{arith}
 use lib.ListN.{length-set}
-use Rattle.format.specs.Laws.Stores.{over_nothing, over_next}
+use Rattle.format.proofs.Laws.Stores.{over_nothing, over_next}
 use Rattle.stores.proofs.copy.Goals as goal
 
 pub loop-j-init : goal.loop-j-init

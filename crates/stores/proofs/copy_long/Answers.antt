@@ -5,7 +5,8 @@ use native.Mathlib.Omega.{arith}
 use lib.ListN.{length}
 use lib.Seq.{length-take-le}
 use Rattle.format.specs.Bytes.{part}
-use Rattle.format.specs.Laws.Stores.{Stored, stored_kept, over_nothing}
+use Rattle.format.specs.Stores.{Stored}
+use Rattle.format.proofs.Laws.Stores.{stored_kept, over_nothing}
 use Rattle.stores.specs.Laws.{StoredPart}
 use Rattle.stores.proofs.Blocks.{stored_next, stored_last}
 use Rattle.stores.proofs.copy_long.Goals as goal

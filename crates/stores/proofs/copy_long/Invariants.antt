@@ -2,7 +2,7 @@
 use mathlib.Core.Path.{◌≡◌}
 use Prim.Native.Nat.{◌+◌, ◌-◌, ◌≤◌}
 use lib.ListN.{length, take}
-use Rattle.format.specs.Laws.Stores.{Stored}
+use Rattle.format.specs.Stores.{Stored}
 use Rattle.stores.proofs.copy_long.Given as goal
 
 abbrev pub invariant-loop-i : goal.invariant-loop-i

@@ -5,7 +5,7 @@ use native.Mathlib.Omega.{arith}
 use borrow.Author.Rules.{rules}
 use lib.ListN.{length, length-set}
 use Rattle.windows_1252_table.specs.Utf16.{to_utf16}
-use Rattle.windows_1252_table.specs.Laws.Utf16.{length_to_utf16}
+use Rattle.windows_1252_table.proofs.Laws.Utf16.{length_to_utf16}
 use Rattle.windows_1252.proofs.Putting.{started, start, next_unit, unit_read, all}
 use Rattle.windows_1252.proofs.put_units.Statement.{statement}
 use Rattle.windows_1252.proofs.put_units.Tie as tie

@@ -5,7 +5,7 @@ use native.Mathlib.Omega.{arith}
 use borrow.Author.Rules.{rules}
 use lib.ListN.{length, length-set}
 use Rattle.windows_1252_table.specs.Utf16.{from_utf16}
-use Rattle.windows_1252_table.specs.Laws.Utf16.{length_from_utf16}
+use Rattle.windows_1252_table.proofs.Laws.Utf16.{length_from_utf16}
 use Rattle.windows_1252.proofs.Putting.{started, start, unit_byte, unit_byte_small, next, all, put_all}
 use Rattle.windows_1252.proofs.units.put_bytes.Statement.{statement}
 use Rattle.windows_1252.proofs.units.put_bytes.Tie as tie

@@ -2,7 +2,7 @@
 use mathlib.Core.Path.{sym, ◌∙◌}
 use native.Mathlib.Omega.{arith}
 use borrow.Author.Rules.{rules}
-use Rattle.windows_1252_table.specs.Laws.Utf16.{unit_at}
+use Rattle.windows_1252_table.proofs.Laws.Utf16.{unit_at}
 use Rattle.windows_1252.proofs.units.unit_in.Statement.{statement}
 use Rattle.windows_1252.proofs.units.unit_in.Tie as tie
 
