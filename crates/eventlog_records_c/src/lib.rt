@@ -34,7 +34,12 @@ pub extern "C" fn eventlog_string_refusal(edition: u32, s: &[u8], at: usize, k: 
 }
 
 #[unsafe(no_mangle)]
-pub extern "C" fn eventlog_next_string(edition: u32, s: &[u8], run: Part, place: usize) -> NextString
+pub extern "C" fn eventlog_next_string(
+    edition: u32,
+    s: &[u8],
+    run: Part,
+    place: usize,
+) -> NextString
     ensures { result ≡ next_string (unit_of edition) s.now run place }
 {
     eventlog_records::eventlog_next_string(edition, s, run, place)

@@ -25,7 +25,15 @@ pub extern "C" fn eventlog_types_count(types: u32) -> u32
 }
 
 #[unsafe(no_mangle)]
-pub extern "C" fn eventlog_read(edition: u32, h: ReadHandle, log: &[u8], flags: u32, number: u32, size: usize, out: &mut [u8]) -> ReadAnswer
+pub extern "C" fn eventlog_read(
+    edition: u32,
+    h: ReadHandle,
+    log: &[u8],
+    flags: u32,
+    number: u32,
+    size: usize,
+    out: &mut [u8],
+) -> ReadAnswer
     ensures { read_outcome result out.new ≡ answered h (serving (unit_of edition) log.now (handle_of h) flags number size out.old) }
 {
     eventlog_serving::eventlog_read(edition, h, log, flags, number, size, out)
