@@ -2,7 +2,7 @@
 # Runs the built listing program on inputs at its limits and holds what it writes to the byte.
 set -euo pipefail
 cd "$(dirname "$0")/.."
-program=target/bin/list
+program=crates/list/out/list
 sample=crates/list/stdin
 room=$(mktemp -d)
 trap 'rm -rf "$room"' EXIT

@@ -10,8 +10,7 @@ ghost use Rattle.edition.specs.Editions.{unit_of};
 use edition::edition_of;
 use format::{Appended, Unnumbered};
 
-#[unsafe(no_mangle)]
-pub extern "C" fn eventlog_append(
+pub fn eventlog_append(
     edition: u32,
     log: &mut [u8],
     used: usize,

@@ -11,32 +11,28 @@ ghost use Rattle.card.specs.Calls.{writing_card, reading_card};
 use format::Written;
 
 // How many blocks a log of so many bytes takes.
-#[unsafe(no_mangle)]
-pub extern "C" fn eventlog_card_blocks(bytes: usize) -> usize
+pub fn eventlog_card_blocks(bytes: usize) -> usize
     ensures { result ≡ block_count bytes }
 {
     card_write::block_count(bytes)
 }
 
 // Writes the image of a log over the start of the output.
-#[unsafe(no_mangle)]
-pub extern "C" fn eventlog_card_write(log: &[u8], out: &mut [u8]) -> Written
+pub fn eventlog_card_write(log: &[u8], out: &mut [u8]) -> Written
     ensures { outcome result out.new ≡ writing_card log.now out.old }
 {
     card_write::write(log, out)
 }
 
 // Reads the log of an image over the start of the output.
-#[unsafe(no_mangle)]
-pub extern "C" fn eventlog_card_read(image: &[u8], out: &mut [u8]) -> Written
+pub fn eventlog_card_read(image: &[u8], out: &mut [u8]) -> Written
     ensures { outcome result out.new ≡ reading_card image.now out.old }
 {
     card_read::read(image, out)
 }
 
 // The refusal of the block at a place of an image, counted from 0, for this place; 0 for none.
-#[unsafe(no_mangle)]
-pub extern "C" fn eventlog_card_judge(image: &[u8], place: usize) -> u32
+pub fn eventlog_card_judge(image: &[u8], place: usize) -> u32
     ensures { result ≡ block_refusal image.now place }
 {
     block::judge(image, place)

@@ -11,8 +11,7 @@ use edition::edition_of;
 use format::Written;
 
 // Over the start of the output.
-#[unsafe(no_mangle)]
-pub extern "C" fn eventlog_listing(edition: u32, s: &[u8], out: &mut [u8]) -> Written
+pub fn eventlog_listing(edition: u32, s: &[u8], out: &mut [u8]) -> Written
     ensures { outcome result out.new ≡ listing (unit_of edition) s.now out.old }
 {
     listing::listing(edition_of(edition), s, out)

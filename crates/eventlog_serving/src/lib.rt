@@ -59,24 +59,21 @@ fn read_handle(place: Place, types: u32) -> ReadHandle
 }
 
 // A handle that nothing was read with, for the records of these types.
-#[unsafe(no_mangle)]
-pub extern "C" fn eventlog_fresh(types: u32) -> ReadHandle
+pub fn eventlog_fresh(types: u32) -> ReadHandle
     ensures { result ≡ fresh_read types }
 {
     read_handle(Place::Fresh, types)
 }
 
 // How many types a set holds.
-#[unsafe(no_mangle)]
-pub extern "C" fn eventlog_types_count(types: u32) -> u32
+pub fn eventlog_types_count(types: u32) -> u32
     ensures { result ≡ type_count types }
 {
     event_types::count(types)
 }
 
 // Reads as many records of the log as fit into the size asked.
-#[unsafe(no_mangle)]
-pub extern "C" fn eventlog_read(
+pub fn eventlog_read(
     edition: u32,
     h: ReadHandle,
     log: &[u8],

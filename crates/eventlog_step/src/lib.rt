@@ -12,8 +12,7 @@ use edition::edition_of;
 use stepped::{Stepped, stepped_of};
 
 // The record that starts at a place.
-#[unsafe(no_mangle)]
-pub extern "C" fn eventlog_step(edition: u32, s: &[u8], at: usize) -> Stepped
+pub fn eventlog_step(edition: u32, s: &[u8], at: usize) -> Stepped
     ensures { result ≡ stepped (step_at Forwards (unit_of edition) s.now at) at }
 {
     stepped_of(record::step(edition_of(edition), s, at), at)

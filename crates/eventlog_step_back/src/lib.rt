@@ -12,8 +12,7 @@ use edition::edition_of;
 use stepped::{Stepped, stepped_of};
 
 // The record that ends at a place.
-#[unsafe(no_mangle)]
-pub extern "C" fn eventlog_step_back(edition: u32, s: &[u8], end: usize) -> Stepped
+pub fn eventlog_step_back(edition: u32, s: &[u8], end: usize) -> Stepped
     ensures { result ≡ stepped (step_at Backwards (unit_of edition) s.now end) end }
 {
     stepped_of(record::step_back(edition_of(edition), s, end), end)

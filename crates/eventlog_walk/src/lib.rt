@@ -11,8 +11,7 @@ ghost use Rattle.walk.specs.Ended.{stop_of};
 use edition::edition_of;
 use walk::Stop;
 
-#[unsafe(no_mangle)]
-pub extern "C" fn eventlog_walk(edition: u32, s: &[u8]) -> Stop
+pub fn eventlog_walk(edition: u32, s: &[u8]) -> Stop
     ensures { result ≡ stop_of (trace Forwards (unit_of edition) s.now) }
 {
     walk::front(edition_of(edition), s)

@@ -10,8 +10,7 @@ use edition::edition_of;
 use format::{Fields, Written};
 
 // Over the start of the output.
-#[unsafe(no_mangle)]
-pub extern "C" fn eventlog_write(
+pub fn eventlog_write(
     edition: u32,
     f: Fields,
     source: &[u8],

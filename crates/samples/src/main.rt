@@ -20,6 +20,7 @@ mod writing;
 
 use records::part;
 use show::{number, start};
+use std::io;
 use table::{field, find, nth, nth16, what};
 use values::yes;
 
@@ -60,54 +61,55 @@ enum Kind {
     CallListing,
 }
 
-fn ask_one(kind: Kind, q: &[u8]) {
+fn ask_one(rt: &impl Print, kind: Kind, q: &[u8]) -> io::Result<()> {
     match kind {
-        Kind::Put => values::put_u(q),
-        Kind::PutLong => values::put_long(q),
-        Kind::Step => reading::step(q),
-        Kind::StepBack => reading::step_back(q),
-        Kind::Parts => reading::show_parts(q),
-        Kind::StartOfS => reading::start_of_s(q),
-        Kind::ChangedS => reading::changed_s(q),
-        Kind::ChangedT => reading::changed_t(q),
-        Kind::LongerS => reading::changed_longer_s(q),
-        Kind::Published => published::published(q),
-        Kind::Many => reading::many(q),
-        Kind::Large => reading::large(q),
-        Kind::String => reading::string(q),
-        Kind::NextString => reading::next_string(q),
-        Kind::Walks => walks::walks(q),
-        Kind::Judged => walks::judged(q),
-        Kind::JudgedBack => walks::judged_back(q),
-        Kind::Record => writing::record(q),
-        Kind::Event => writing::event(q),
-        Kind::Long => writing::long(q),
-        Kind::ReadAt => serving::read_at(q),
-        Kind::ReadEmpty => serving::read_empty(q),
-        Kind::ReadLarge => serving::read_large(q),
-        Kind::List => listings::list(q),
-        Kind::Decimal => listings::decimal(q),
-        Kind::CallStep => interface::step(q),
-        Kind::CallStepBack => interface::step_back(q),
-        Kind::CallRefusal => interface::refusal(q),
-        Kind::CallString => interface::string(q),
-        Kind::CallNext => interface::next_string(q),
-        Kind::CallWalks => interface::walks(q),
-        Kind::CallListing => interface::listing(q),
+        Kind::Put => values::put_u(rt, q),
+        Kind::PutLong => values::put_long(rt, q),
+        Kind::Step => reading::step(rt, q),
+        Kind::StepBack => reading::step_back(rt, q),
+        Kind::Parts => reading::show_parts(rt, q),
+        Kind::StartOfS => reading::start_of_s(rt, q),
+        Kind::ChangedS => reading::changed_s(rt, q),
+        Kind::ChangedT => reading::changed_t(rt, q),
+        Kind::LongerS => reading::changed_longer_s(rt, q),
+        Kind::Published => published::published(rt, q),
+        Kind::Many => reading::many(rt, q),
+        Kind::Large => reading::large(rt, q),
+        Kind::String => reading::string(rt, q),
+        Kind::NextString => reading::next_string(rt, q),
+        Kind::Walks => walks::walks(rt, q),
+        Kind::Judged => walks::judged(rt, q),
+        Kind::JudgedBack => walks::judged_back(rt, q),
+        Kind::Record => writing::record(rt, q),
+        Kind::Event => writing::event(rt, q),
+        Kind::Long => writing::long(rt, q),
+        Kind::ReadAt => serving::read_at(rt, q),
+        Kind::ReadEmpty => serving::read_empty(rt, q),
+        Kind::ReadLarge => serving::read_large(rt, q),
+        Kind::List => listings::list(rt, q),
+        Kind::Decimal => listings::decimal(rt, q),
+        Kind::CallStep => interface::step(rt, q),
+        Kind::CallStepBack => interface::step_back(rt, q),
+        Kind::CallRefusal => interface::refusal(rt, q),
+        Kind::CallString => interface::string(rt, q),
+        Kind::CallNext => interface::next_string(rt, q),
+        Kind::CallWalks => interface::walks(rt, q),
+        Kind::CallListing => interface::listing(rt, q),
     }
 }
 
 // Each line of a table.
-fn ask(kind: Kind, table: &[u8]) {
+fn ask(rt: &impl Print, kind: Kind, table: &[u8]) -> io::Result<()> {
     let mut at = 0usize;
     while at < table.len() {
         let end = find(table, at, b'\n');
         if end >= table.len() {
-            return;
+            return Ok(());
         }
-        ask_one(kind, part(table, at, end));
+        ask_one(rt, kind, part(table, at, end))?;
         at = end + 1;
     }
+    Ok(())
 }
 
 // The calls that answer a number: each field of a line is a question.
@@ -150,36 +152,34 @@ fn value_of(v: Value, t: &[u8]) -> u64 {
     }
 }
 
-fn each_in(v: Value, q: &[u8]) {
-    start(what(q));
-    let n = table::fields(q);
-    let mut k = 0usize;
-    while k < n {
-        k += 1;
-        number(value_of(v, field(q, k)));
+fn each_in(rt: &impl Print, v: Value, q: &[u8]) -> io::Result<()> {
+    start(rt, what(q))?;
+    for k in 0..table::fields(q) {
+        number(rt, value_of(v, field(q, k + 1)))?;
     }
-    show::end();
+    show::end(rt)
 }
 
-fn each(v: Value, table: &[u8]) {
+fn each(rt: &impl Print, v: Value, table: &[u8]) -> io::Result<()> {
     let mut at = 0usize;
     while at < table.len() {
         let end = find(table, at, b'\n');
         if end >= table.len() {
-            return;
+            return Ok(());
         }
-        each_in(v, part(table, at, end));
+        each_in(rt, v, part(table, at, end))?;
         at = end + 1;
     }
+    Ok(())
 }
 
-fn main() {
-    values::values();
-    reading::reading();
-    walks::walking();
-    writing::writing();
-    appending::appending();
-    serving::serving();
-    listings::listings();
-    interface::interface();
+fn main(rt: HostRuntime) -> io::Result<()> {
+    values::values(&rt)?;
+    reading::reading(&rt)?;
+    walks::walking(&rt)?;
+    writing::writing(&rt)?;
+    appending::appending(&rt)?;
+    serving::serving(&rt)?;
+    listings::listings(&rt)?;
+    interface::interface(&rt)
 }

@@ -2,6 +2,7 @@
 
 use crate::reading::changed;
 use crate::table::patch;
+use std::io;
 
 // Its SID is printed in part only: with zeros there it is no SID, and with a well-formed one the parts end four
 // bytes before Length2.
@@ -22,8 +23,8 @@ fn lay_out(r: &mut [u8]) {
 }
 
 // The record with bytes put over it.
-pub fn published(q: &[u8]) {
+pub fn published(rt: &impl Print, q: &[u8]) -> io::Result<()> {
     let mut r = [0u8; 168];
     lay_out(&mut r);
-    changed(q, &mut r);
+    changed(rt, q, &mut r)
 }

@@ -5,11 +5,13 @@ use crate::show::{bytes, line, line3, line4, topic};
 use crate::table::{field, number, number32, patch, what};
 use crate::{Kind, ask};
 use format::{Edition, Part, Record, Refusal, Step};
+use std::io;
 use stores::put;
 
-fn show_numbers(a: Record) {
+fn show_numbers(rt: &impl Print, a: Record) -> io::Result<()> {
     let f = a.fields;
     line(
+        rt,
         b"  number, times, event, type, strings, category, flags",
         &[
             f.record_number as u64,
@@ -21,18 +23,20 @@ fn show_numbers(a: Record) {
             f.event_category as u64,
             f.reserved_flags as u64,
         ],
-    );
+    )
 }
 
-fn show_places(a: Record) {
+fn show_places(rt: &impl Print, a: Record) -> io::Result<()> {
     line4(
+        rt,
         b"  names",
         a.source_name.at as u64,
         a.source_name.len as u64,
         a.computer_name.at as u64,
         a.computer_name.len as u64,
-    );
+    )?;
     line(
+        rt,
         b"  SID, strings and data",
         &[
             a.sid.at as u64,
@@ -42,37 +46,39 @@ fn show_places(a: Record) {
             a.event_data.at as u64,
             a.event_data.len as u64,
         ],
-    );
+    )
 }
 
 // Start and Length, the numbers, and where the parts lie.
-pub fn show_record(what: &[u8], a: Record) {
-    line3(what, 0, a.start as u64, a.length as u64);
-    show_numbers(a);
-    show_places(a);
+pub fn show_record(rt: &impl Print, what: &[u8], a: Record) -> io::Result<()> {
+    line3(rt, what, 0, a.start as u64, a.length as u64)?;
+    show_numbers(rt, a)?;
+    show_places(rt, a)
 }
 
 // The record at a place of the log.
-pub fn step(q: &[u8]) {
+pub fn step(rt: &impl Print, q: &[u8]) -> io::Result<()> {
     show_step(
+        rt,
         what(q),
         record::step(Edition::Unicode, &log(), number(q, 1)),
-    );
+    )
 }
 
 // The record that ends at a place of the log.
-pub fn step_back(q: &[u8]) {
+pub fn step_back(rt: &impl Print, q: &[u8]) -> io::Result<()> {
     show_step(
+        rt,
         what(q),
         record::step_back(Edition::Unicode, &log(), number(q, 1)),
-    );
+    )
 }
 
-fn show_step(what: &[u8], x: Step) {
+fn show_step(rt: &impl Print, what: &[u8], x: Step) -> io::Result<()> {
     match x {
-        Step::Found(a) => show_record(what, a),
+        Step::Found(a) => show_record(rt, what, a),
         Step::Refused { refusal: k, at: p } => {
-            line3(what, k.number as u64, k.field as u64, p as u64)
+            line3(rt, what, k.number as u64, k.field as u64, p as u64)
         }
     }
 }
@@ -90,40 +96,42 @@ pub fn refusal_back(r: &[u8], end: usize) -> Refusal {
 
 // The refusals of the record that fills the buffer, each with its field: of the step at its start, and of the
 // step from its end.
-pub fn refusals(what: &[u8], r: &[u8]) {
+pub fn refusals(rt: &impl Print, what: &[u8], r: &[u8]) -> io::Result<()> {
     let f = record::refusal(Edition::Unicode, r, 0);
     let b = refusal_back(r, r.len());
     line4(
+        rt,
         what,
         f.number as u64,
         f.field as u64,
         b.number as u64,
         b.field as u64,
-    );
+    )
 }
 
 // The first bytes of S.
-pub fn start_of_s(q: &[u8]) {
-    refusals(what(q), part(&s(), 0, number(q, 1)));
+pub fn start_of_s(rt: &impl Print, q: &[u8]) -> io::Result<()> {
+    refusals(rt, what(q), part(&s(), 0, number(q, 1)))
 }
 
 // A record with bytes put over it.
-pub fn changed(q: &[u8], r: &mut [u8]) {
+pub fn changed(rt: &impl Print, q: &[u8], r: &mut [u8]) -> io::Result<()> {
     patch(r, q, 1);
-    refusals(what(q), r);
+    refusals(rt, what(q), r)
 }
 
-pub fn changed_s(q: &[u8]) {
-    changed(q, &mut s());
+pub fn changed_s(rt: &impl Print, q: &[u8]) -> io::Result<()> {
+    changed(rt, q, &mut s())
 }
 
-pub fn changed_t(q: &[u8]) {
-    changed(q, &mut t());
+pub fn changed_t(rt: &impl Print, q: &[u8]) -> io::Result<()> {
+    changed(rt, q, &mut t())
 }
 
 // 2 to 5.
-fn lengths() {
+fn lengths(rt: &impl Print) -> io::Result<()> {
     ask(
+        rt,
         Kind::ChangedT,
         b"\
 T|0|
@@ -138,12 +146,13 @@ T with Length2 65536|100|\0\0\x01
 T with Length2 262144|100|\0\0\x04
 T with Length2 108|100|\x6c
 ",
-    );
+    )
 }
 
 // 6 to 8.
-fn numbers() {
+fn numbers(rt: &impl Print) -> io::Result<()> {
     ask(
+        rt,
         Kind::ChangedT,
         b"\
 T with type 3|24|\x03
@@ -161,19 +170,21 @@ T with 257 strings|26|\x01\x01
 T with type 3 and flags 1|24|\x03\0\x01\0\0\0\x01
 T with flags 1 and 257 strings|26|\x01\x01\0\0\x01
 ",
-    );
+    )
 }
 
 // 9 and 10.
-fn names_and_sids() {
+fn names_and_sids(rt: &impl Print) -> io::Result<()> {
     ask(
+        rt,
         Kind::ChangedS,
         b"\
 S with a computer name that has no end|57|\x01
 S with a source name that has no end|57|\x01|59|\x01
 ",
-    );
+    )?;
     ask(
+        rt,
         Kind::ChangedT,
         b"\
 T with SID offset 77|44|\x4d
@@ -185,20 +196,22 @@ T with SID revision 2|76|\x02
 T with SID count 2|77|\x02
 T with no SID|40|\0
 ",
-    );
+    )
 }
 
 // 11 to 13, and the offsets of absent parts.
-fn strings_and_data() {
+fn strings_and_data(rt: &impl Print) -> io::Result<()> {
     ask(
+        rt,
         Kind::ChangedS,
         b"\
 S with string offset 5|36|\x05
 S with SID offset 5|44|\x05
 S with data offset 5|52|\x05
 ",
-    );
+    )?;
     ask(
+        rt,
         Kind::ChangedT,
         b"\
 T with string offset 90|36|\x5a
@@ -213,7 +226,7 @@ T with 2 bytes of data|48|\x02
 T with no data|48|\0
 T with 4294967295 bytes of data|48|\xff\xff\xff\xff
 ",
-    );
+    )
 }
 
 // S made 68 bytes long.
@@ -222,22 +235,23 @@ fn longer_s(r: &mut [u8]) {
     patch(r, b"|0|\x44|60|\0\0\0\0\x44", 1);
 }
 
-pub fn changed_longer_s(q: &[u8]) {
+pub fn changed_longer_s(rt: &impl Print, q: &[u8]) -> io::Result<()> {
     let mut r = [0u8; 68];
     longer_s(&mut r);
-    changed(q, &mut r);
+    changed(rt, q, &mut r)
 }
 
 // The second has one string, "AB" without a zero unit before Length2.
-fn sizes() {
+fn sizes(rt: &impl Print) -> io::Result<()> {
     ask(
+        rt,
         Kind::LongerS,
         b"\
 S with 68 bytes|0|\x44
 S with a string that has no end|26|\x01|36|\x3c|60|A\0B\0
 S with a string|26|\x01|36|\x3c|60|A\0\0\0
 ",
-    );
+    )
 }
 
 // T with a gap of eight bytes after its names (Rule 2.12).
@@ -260,86 +274,96 @@ fn gapless() -> [u8; 100] {
     r
 }
 
-fn step_of(what: &[u8], r: &[u8]) {
-    show_step(what, record::step(Edition::Unicode, r, 0));
+fn step_of(rt: &impl Print, what: &[u8], r: &[u8]) -> io::Result<()> {
+    show_step(rt, what, record::step(Edition::Unicode, r, 0))
 }
 
-fn gaps() {
+fn gaps(rt: &impl Print) -> io::Result<()> {
     let mut r = gapped();
-    step_of(b"T with a gap of eight bytes", &r);
+    step_of(rt, b"T with a gap of eight bytes", &r)?;
     show_step(
+        rt,
         b"the same from the rear",
         record::step_back(Edition::Unicode, &r, 108),
-    );
+    )?;
     put(&mut r, 36, b"\x5f");
-    refusals(b"the same with a string offset of 95", &r);
-    step_of(b"T with no gap", &gapless());
+    refusals(rt, b"the same with a string offset of 95", &r)?;
+    step_of(rt, b"T with no gap", &gapless())?;
     ask(
+        rt,
         Kind::ChangedS,
         b"\
 S with a string inside its names|26|\x01|36|\x38
 S with a string past its end|26|\x01|36|\xff
 ",
-    );
+    )
 }
 
 // The first bytes of these, with bytes put over them.
-fn changed_part(q: &[u8], r: &mut [u8]) {
+fn changed_part(rt: &impl Print, q: &[u8], r: &mut [u8]) -> io::Result<()> {
     patch(r, q, 2);
-    refusals(what(q), part(r, 0, number(q, 1)));
+    refusals(rt, what(q), part(r, 0, number(q, 1)))
 }
 
-pub fn many(q: &[u8]) {
-    changed_part(q, &mut [0u8; 580]);
+pub fn many(rt: &impl Print, q: &[u8]) -> io::Result<()> {
+    changed_part(rt, q, &mut [0u8; 580])
 }
 
 // So many empty strings.
-fn many_strings() {
+fn many_strings(rt: &impl Print) -> io::Result<()> {
     ask(
+        rt,
         Kind::Many,
         b"\
 256 strings|576|0|\x40\x02\0\0LfLe|26|\0\x01|36|\x3c|572|\x40\x02
 257 strings|580|0|\x44\x02\0\0LfLe|26|\x01\x01|36|\x3c|576|\x44\x02
 ",
-    );
+    )
 }
 
-pub fn large(q: &[u8]) {
-    changed_part(q, &mut [0u8; 61508]);
+pub fn large(rt: &impl Print, q: &[u8]) -> io::Result<()> {
+    changed_part(rt, q, &mut [0u8; 61508])
 }
 
 // Empty names: 61,440 bytes of data make 61,504 bytes, and 61,441 make 61,508.
-fn most_data() {
+fn most_data(rt: &impl Print) -> io::Result<()> {
     ask(
+        rt,
         Kind::Large,
         b"\
 61440 bytes of data|61504|0|\x40\xf0\0\0LfLe|48|\0\xf0\0\0\x3c|61500|\x40\xf0
 61441 bytes of data|61508|0|\x44\xf0\0\0LfLe|48|\x01\xf0\0\0\x3c|61504|\x44\xf0
 ",
-    );
+    )
 }
 
 // String k of the record at a place of the log, with bytes put over the log: its refusal, where it lies, and its bytes.
-pub fn string(q: &[u8]) {
+pub fn string(rt: &impl Print, q: &[u8]) -> io::Result<()> {
     let log = log_with(q, 3);
-    show_string(what(q), &log, number(q, 1), number32(q, 2));
+    show_string(rt, what(q), &log, number(q, 1), number32(q, 2))
 }
 
-fn show_string(what: &[u8], log: &[u8], at: usize, k: u32) {
+fn show_string(rt: &impl Print, what: &[u8], log: &[u8], at: usize, k: u32) -> io::Result<()> {
     let p = parts::string_part(Edition::Unicode, log, at, k);
     let x = parts::string_refusal(Edition::Unicode, log, at, k);
     line4(
+        rt,
         what,
         x.number as u64,
         x.field as u64,
         p.at as u64,
         p.len as u64,
-    );
-    bytes(b"  its bytes", parts::string(Edition::Unicode, log, at, k));
+    )?;
+    bytes(
+        rt,
+        b"  its bytes",
+        parts::string(Edition::Unicode, log, at, k),
+    )
 }
 
-fn strings_by_number() {
+fn strings_by_number(rt: &impl Print) -> io::Result<()> {
     ask(
+        rt,
         Kind::String,
         b"\
 string 0 of T|64|0
@@ -352,28 +376,30 @@ string 4294967295 of U|168|4294967295
 string 0 at 1|1|0
 string 0 of T with type 3|64|0|88|\x03
 ",
-    );
+    )
 }
 
 // A run of the log and a place in it: the refusal of the string that starts there, where it lies, and the place after it.
-pub fn next_string(q: &[u8]) {
+pub fn next_string(rt: &impl Print, q: &[u8]) -> io::Result<()> {
     let run = Part {
         at: number(q, 1),
         len: number(q, 2),
     };
     let x = strings::next_string(Edition::Unicode, &log(), run, number(q, 3));
     line4(
+        rt,
         what(q),
         x.refusal as u64,
         x.string.at as u64,
         x.string.len as u64,
         x.next as u64,
-    );
+    )
 }
 
 // U's run lies from 256 to 272; a step shows no other one.
-fn strings_in_turn() {
+fn strings_in_turn(rt: &impl Print) -> io::Result<()> {
     ask(
+        rt,
         Kind::NextString,
         b"\
 next string at 256|256|16|256
@@ -392,31 +418,33 @@ a run of no bytes|60|0|60
 a run at the last number|18446744073709551615|1|18446744073709551615
 a run as long as the last number|256|18446744073709551615|256
 ",
-    );
+    )
 }
 
 // The parts of the record at a place of the log.
-pub fn show_parts(q: &[u8]) {
+pub fn show_parts(rt: &impl Print, q: &[u8]) -> io::Result<()> {
     let log = log();
-    show_names(what(q), &log, number(q, 1));
-    show_others(&log, number(q, 1));
+    show_names(rt, what(q), &log, number(q, 1))?;
+    show_others(rt, &log, number(q, 1))
 }
 
-fn show_names(what: &[u8], log: &[u8], at: usize) {
-    bytes(what, parts::source_name(Edition::Unicode, log, at));
+fn show_names(rt: &impl Print, what: &[u8], log: &[u8], at: usize) -> io::Result<()> {
+    bytes(rt, what, parts::source_name(Edition::Unicode, log, at))?;
     bytes(
+        rt,
         b"  computer name",
         parts::computer_name(Edition::Unicode, log, at),
-    );
+    )
 }
 
-fn show_others(log: &[u8], at: usize) {
-    bytes(b"  SID", parts::sid(Edition::Unicode, log, at));
-    bytes(b"  data", parts::event_data(Edition::Unicode, log, at));
+fn show_others(rt: &impl Print, log: &[u8], at: usize) -> io::Result<()> {
+    bytes(rt, b"  SID", parts::sid(Edition::Unicode, log, at))?;
+    bytes(rt, b"  data", parts::event_data(Edition::Unicode, log, at))
 }
 
-fn shown_parts() {
+fn shown_parts(rt: &impl Print) -> io::Result<()> {
     ask(
+        rt,
         Kind::Parts,
         b"\
 source name of S|0
@@ -424,12 +452,13 @@ source name of T|64
 source name of U|168
 source name at 1|1
 ",
-    );
-    show_record(b"no record", parts::nothing());
+    )?;
+    show_record(rt, b"no record", parts::nothing())
 }
 
-fn steps() {
+fn steps(rt: &impl Print) -> io::Result<()> {
     ask(
+        rt,
         Kind::Step,
         b"\
 step at 0|0
@@ -440,8 +469,9 @@ step at 284|284
 step at 285|285
 step at the last number|18446744073709551615
 ",
-    );
+    )?;
     ask(
+        rt,
         Kind::StepBack,
         b"\
 step back at 284|284
@@ -452,38 +482,40 @@ step back at 63|63
 step back at 0|0
 step back at 285|285
 ",
-    );
+    )
 }
 
-pub fn reading() {
-    topic(b"steps, from the front and from the rear");
-    steps();
-    topic(b"refusals, from the front and from the rear");
+pub fn reading(rt: &impl Print) -> io::Result<()> {
+    topic(rt, b"steps, from the front and from the rear")?;
+    steps(rt)?;
+    topic(rt, b"refusals, from the front and from the rear")?;
     ask(
+        rt,
         Kind::StartOfS,
         b"\
 S without its last byte|63
 S|64
 no bytes|0
 ",
-    );
-    lengths();
-    numbers();
-    names_and_sids();
-    strings_and_data();
-    sizes();
-    gaps();
-    many_strings();
-    most_data();
+    )?;
+    lengths(rt)?;
+    numbers(rt)?;
+    names_and_sids(rt)?;
+    strings_and_data(rt)?;
+    sizes(rt)?;
+    gaps(rt)?;
+    many_strings(rt)?;
+    most_data(rt)?;
     ask(
+        rt,
         Kind::Published,
         b"\
 the record of MS-EVEN 4.2
 the same with a well-formed SID|106|\x01\x01
 ",
-    );
-    topic(b"parts and strings");
-    shown_parts();
-    strings_by_number();
-    strings_in_turn();
+    )?;
+    topic(rt, b"parts and strings")?;
+    shown_parts(rt)?;
+    strings_by_number(rt)?;
+    strings_in_turn(rt)
 }

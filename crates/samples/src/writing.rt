@@ -7,6 +7,7 @@ use crate::table::{field, nth, number, what};
 use crate::{Kind, Value, ask, each};
 use format::{Edition, Written};
 use places::measure;
+use std::io;
 
 // The event of a question: its numbers, source, computer, SID, strings and data.
 fn write(q: &[u8], out: &mut [u8]) -> Written {
@@ -36,28 +37,30 @@ fn refusal(q: &[u8]) -> u32 {
 }
 
 // Into a buffer of 120 bytes.
-pub fn record(q: &[u8]) {
+pub fn record(rt: &impl Print, q: &[u8]) -> io::Result<()> {
     let mut out = [0xaau8; 120];
     let w = write(q, &mut out);
     line3(
+        rt,
         what(q),
         w.refusal as u64,
         w.length as u64,
         refusal(q) as u64,
-    );
-    output(&out);
+    )?;
+    output(rt, &out)
 }
 
 // Into a buffer of 80 bytes.
-pub fn event(q: &[u8]) {
+pub fn event(rt: &impl Print, q: &[u8]) -> io::Result<()> {
     let mut out = [0xaau8; 80];
     let w = write(q, &mut out);
-    line2(what(q), w.refusal as u64, w.length as u64);
-    bytes(b"  the output's start", part(&out, 0, 4));
+    line2(rt, what(q), w.refusal as u64, w.length as u64)?;
+    bytes(rt, b"  the output's start", part(&out, 0, 4))
 }
 
-fn records() {
+fn records(rt: &impl Print) -> io::Result<()> {
     ask(
+        rt,
         Kind::Record,
         b"\
 S|7
@@ -65,11 +68,12 @@ T|8,0,1|S\0c\0a\0l\0e\0|T\x001\0|\x01\x01\0\0\0\0\0\0\0\0\0\0|O\0K\0\0\0|\0\0\0
 U|9,4,3,32768,1001,1002,1003,7|P\0a\0n\0s\0|K\0|\x01\x02\0\0\0\0\0\x05\x15\0\0\0\x20\x02\0\0\
 |A\0\0\0\0\0T\0a\0r\0e\0\0\0|\xd1\xd2\xd3\xd4\xd5
 ",
-    );
+    )
 }
 
-fn events() {
+fn events(rt: &impl Print) -> io::Result<()> {
     ask(
+        rt,
         Kind::Event,
         b"\
 type 3|7,3
@@ -98,19 +102,20 @@ a SID with revision 2|7|||\x02\0\0\0\0\0\0\0
 2 strings and a byte|7,0,2||||A\0\0\0\0\0B
 no strings, 1 given|7||||\0\0
 ",
-    );
+    )
 }
 
 // A source name and data of these lengths, into so much room.
-pub fn long(q: &[u8]) {
+pub fn long(rt: &impl Print, q: &[u8]) -> io::Result<()> {
     let mut out = [0u8; 65540];
     let room = number(q, 3);
     if room <= 65540 {
-        long_into(q, &[0u8; 262100], &mut out[..room]);
+        long_into(rt, q, &[0u8; 262100], &mut out[..room])?;
     }
+    Ok(())
 }
 
-fn long_into(q: &[u8], zeros: &[u8; 262100], out: &mut [u8]) {
+fn long_into(rt: &impl Print, q: &[u8], zeros: &[u8; 262100], out: &mut [u8]) -> io::Result<()> {
     let none: &[u8] = b"";
     let w = writer::write(
         Edition::Unicode,
@@ -122,22 +127,25 @@ fn long_into(q: &[u8], zeros: &[u8; 262100], out: &mut [u8]) {
         part(zeros, 0, number(q, 2)),
         out,
     );
-    line2(what(q), w.refusal as u64, w.length as u64);
-    read_again(w, out);
+    line2(rt, what(q), w.refusal as u64, w.length as u64)?;
+    read_again(rt, w, out)
 }
 
-fn read_again(w: Written, out: &[u8]) {
+fn read_again(rt: &impl Print, w: Written, out: &[u8]) -> io::Result<()> {
     if w.refusal == 0 {
         line2(
+            rt,
             b"  read again, and from the rear",
             record::refusal(Edition::Unicode, out, 0).number as u64,
             refusal_back(out, w.length).number as u64,
-        );
+        )?;
     }
+    Ok(())
 }
 
-fn lengths_refused() {
+fn lengths_refused(rt: &impl Print) -> io::Result<()> {
     ask(
+        rt,
         Kind::Long,
         b"\
 Length 24096|4032|20000|65540
@@ -147,7 +155,7 @@ Length 24096|4032|20000|65540
 68 bytes into 67|4|0|67
 64 bytes into none|0|0|0
 ",
-    );
+    )
 }
 
 // The Length of a record with parts of these lengths, 0 where it would be too long.
@@ -163,21 +171,22 @@ pub fn length_of(t: &[u8]) -> u64 {
     .length as u64
 }
 
-fn lengths() {
+fn lengths(rt: &impl Print) -> io::Result<()> {
     each(
+        rt,
         Value::Length,
         b"\
 Lengths 65536, 262140, 262144|4032,0,0,0,61440|200636,0,0,0,61440|200640,0,0,0,61440
 Lengths of parts as long as a number can be|18446744073709551615|0,18446744073709551614,2\
 |0,0,18446744073709551600,18446744073709551600,18446744073709551600
 ",
-    );
+    )
 }
 
-pub fn writing() {
-    topic(b"writing");
-    records();
-    events();
-    lengths_refused();
-    lengths();
+pub fn writing(rt: &impl Print) -> io::Result<()> {
+    topic(rt, b"writing")?;
+    records(rt)?;
+    events(rt)?;
+    lengths_refused(rt)?;
+    lengths(rt)
 }

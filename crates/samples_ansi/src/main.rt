@@ -16,6 +16,7 @@ mod walks;
 mod writing;
 
 use records::part;
+use std::io;
 use table::find;
 
 // The kinds of questions. What the fields of a line are, the function says that answers it.
@@ -54,62 +55,63 @@ enum Kind {
     Calls,
 }
 
-fn ask_one(kind: Kind, q: &[u8]) {
+fn ask_one(rt: &impl Print, kind: Kind, q: &[u8]) -> io::Result<()> {
     match kind {
-        Kind::Lengths => texts::lengths(q),
-        Kind::LongLengths => texts::long_lengths(q),
-        Kind::EndsOf => texts::ends_of(q),
-        Kind::Ends => texts::ends(q),
-        Kind::LongEnds => texts::long_ends(q),
-        Kind::Step => reading::step(q),
-        Kind::StepBack => reading::step_back(q),
-        Kind::ChangedT => reading::changed_t(q),
-        Kind::StepsOfS => reading::steps_of_s(q),
-        Kind::ChangedGapped => reading::changed_gapped(q),
-        Kind::Filled => reading::filled(q),
-        Kind::Edition => reading::in_edition(q),
-        Kind::Judged => judging::judged(q),
-        Kind::JudgedBack => judging::judged_back(q),
-        Kind::Measured => judging::measured(q),
-        Kind::MeasuredBack => judging::measured_back(q),
-        Kind::Whole => judging::whole_part(q),
-        Kind::Parts => parted::show_parts(q),
-        Kind::String => parted::string(q),
-        Kind::NextString => parted::next_string(q),
-        Kind::Walks => walks::walks(q),
-        Kind::Listing => walks::list(q),
-        Kind::Record => writing::record(q),
-        Kind::Refusals => writing::refusals(q),
-        Kind::Room => writing::room(q),
-        Kind::Places => writing::places(q),
-        Kind::Read => serving::read_fresh(q),
-        Kind::ReadUnicode => serving::read_unicode(q),
-        Kind::Deliver => serving::deliver(q),
-        Kind::DeliverBack => serving::deliver_back(q),
-        Kind::Calls => interface::calls(q),
+        Kind::Lengths => texts::lengths(rt, q),
+        Kind::LongLengths => texts::long_lengths(rt, q),
+        Kind::EndsOf => texts::ends_of(rt, q),
+        Kind::Ends => texts::ends(rt, q),
+        Kind::LongEnds => texts::long_ends(rt, q),
+        Kind::Step => reading::step(rt, q),
+        Kind::StepBack => reading::step_back(rt, q),
+        Kind::ChangedT => reading::changed_t(rt, q),
+        Kind::StepsOfS => reading::steps_of_s(rt, q),
+        Kind::ChangedGapped => reading::changed_gapped(rt, q),
+        Kind::Filled => reading::filled(rt, q),
+        Kind::Edition => reading::in_edition(rt, q),
+        Kind::Judged => judging::judged(rt, q),
+        Kind::JudgedBack => judging::judged_back(rt, q),
+        Kind::Measured => judging::measured(rt, q),
+        Kind::MeasuredBack => judging::measured_back(rt, q),
+        Kind::Whole => judging::whole_part(rt, q),
+        Kind::Parts => parted::show_parts(rt, q),
+        Kind::String => parted::string(rt, q),
+        Kind::NextString => parted::next_string(rt, q),
+        Kind::Walks => walks::walks(rt, q),
+        Kind::Listing => walks::list(rt, q),
+        Kind::Record => writing::record(rt, q),
+        Kind::Refusals => writing::refusals(rt, q),
+        Kind::Room => writing::room(rt, q),
+        Kind::Places => writing::places(rt, q),
+        Kind::Read => serving::read_fresh(rt, q),
+        Kind::ReadUnicode => serving::read_unicode(rt, q),
+        Kind::Deliver => serving::deliver(rt, q),
+        Kind::DeliverBack => serving::deliver_back(rt, q),
+        Kind::Calls => interface::calls(rt, q),
     }
 }
 
 // Each line of a table.
-fn ask(kind: Kind, table: &[u8]) {
+fn ask(rt: &impl Print, kind: Kind, table: &[u8]) -> io::Result<()> {
     let mut at = 0usize;
     while at < table.len() {
         let end = find(table, at, b'\n');
         if end >= table.len() {
-            return;
+            return Ok(());
         }
-        ask_one(kind, part(table, at, end));
+        ask_one(rt, kind, part(table, at, end))?;
         at = end + 1;
     }
+    Ok(())
 }
 
-fn main() {
-    texts::texts();
-    reading::reading();
-    judging::judging();
-    parted::parted();
-    walks::walking();
-    writing::writing();
-    serving::serving();
-    interface::interface();
+fn main(rt: HostRuntime) -> io::Result<()> {
+    texts::texts(&rt)?;
+    reading::reading(&rt)?;
+    judging::judging(&rt)?;
+    parted::parted(&rt)?;
+    walks::walking(&rt)?;
+    writing::writing(&rt)?;
+    serving::serving(&rt)?;
+    interface::interface(&rt)
 }

@@ -5,66 +5,85 @@ use crate::show::{bytes, line4, topic};
 use crate::table::{edition, number, number32, what};
 use crate::{Kind, ask};
 use format::{Edition, Part};
+use std::io;
 
 // The parts of the record at a place of the log.
-pub fn show_parts(q: &[u8]) {
+pub fn show_parts(rt: &impl Print, q: &[u8]) -> io::Result<()> {
     let log = log();
-    show_names(what(q), &log, number(q, 1));
-    show_others(&log, number(q, 1));
+    show_names(rt, what(q), &log, number(q, 1))?;
+    show_others(rt, &log, number(q, 1))
 }
 
-fn show_names(what: &[u8], log: &[u8], at: usize) {
-    bytes(what, parts::source_name(Edition::Ansi, log, at));
+fn show_names(rt: &impl Print, what: &[u8], log: &[u8], at: usize) -> io::Result<()> {
+    bytes(rt, what, parts::source_name(Edition::Ansi, log, at))?;
     bytes(
+        rt,
         b"  computer name",
         parts::computer_name(Edition::Ansi, log, at),
-    );
+    )
 }
 
-fn show_others(log: &[u8], at: usize) {
-    bytes(b"  SID", parts::sid(Edition::Ansi, log, at));
-    bytes(b"  data", parts::event_data(Edition::Ansi, log, at));
+fn show_others(rt: &impl Print, log: &[u8], at: usize) -> io::Result<()> {
+    bytes(rt, b"  SID", parts::sid(Edition::Ansi, log, at))?;
+    bytes(rt, b"  data", parts::event_data(Edition::Ansi, log, at))
 }
 
 // Where string k of the record at a place lies, its refusal, and its bytes.
-fn show_string(what: &[u8], e: Edition, log: &[u8], at: usize, k: u32) {
+fn show_string(
+    rt: &impl Print,
+    what: &[u8],
+    e: Edition,
+    log: &[u8],
+    at: usize,
+    k: u32,
+) -> io::Result<()> {
     let p = parts::string_part(e, log, at, k);
     let x = parts::string_refusal(e, log, at, k);
     line4(
+        rt,
         what,
         x.number as u64,
         x.field as u64,
         p.at as u64,
         p.len as u64,
-    );
-    bytes(b"  its bytes", parts::string(e, log, at, k));
+    )?;
+    bytes(rt, b"  its bytes", parts::string(e, log, at, k))
 }
 
 // A place of the log, the string's number, and the edition.
-pub fn string(q: &[u8]) {
-    show_string(what(q), edition(q, 3), &log(), number(q, 1), number32(q, 2));
+pub fn string(rt: &impl Print, q: &[u8]) -> io::Result<()> {
+    show_string(
+        rt,
+        what(q),
+        edition(q, 3),
+        &log(),
+        number(q, 1),
+        number32(q, 2),
+    )
 }
 
 // Where the run starts, its length, a place, and the edition: the refusal of the string that starts there, where it lies,
 // and the place after it.
-pub fn next_string(q: &[u8]) {
+pub fn next_string(rt: &impl Print, q: &[u8]) -> io::Result<()> {
     let run = Part {
         at: number(q, 1),
         len: number(q, 2),
     };
     let x = strings::next_string(edition(q, 4), &log(), run, number(q, 3));
     line4(
+        rt,
         what(q),
         x.refusal as u64,
         x.string.at as u64,
         x.string.len as u64,
         x.next as u64,
-    );
+    )
 }
 
 // U's run lies from 236 to 244; a step shows no other one.
-fn strings_in_turn() {
+fn strings_in_turn(rt: &impl Print) -> io::Result<()> {
     ask(
+        rt,
         Kind::NextString,
         b"\
 next string at 236|236|8|236
@@ -84,12 +103,13 @@ a run of no bytes|60|0|60
 a run at the last number|18446744073709551615|1|18446744073709551615
 next string at 239 in Unicode|236|8|239|Unicode
 ",
-    );
+    )
 }
 
-pub fn parted() {
-    topic(b"parts and strings");
+pub fn parted(rt: &impl Print) -> io::Result<()> {
+    topic(rt, b"parts and strings")?;
     ask(
+        rt,
         Kind::Parts,
         b"\
 source name of S|0
@@ -97,8 +117,9 @@ source name of T|64
 source name of U|156
 source name at 1|1
 ",
-    );
+    )?;
     ask(
+        rt,
         Kind::String,
         b"\
 string 0 of T|64|0
@@ -111,13 +132,14 @@ string 4294967295 of U|156|4294967295
 string 0 at 1|1|0
 string 0 of T in Unicode|64|0|Unicode
 ",
-    );
+    )?;
     show_string(
+        rt,
         b"string 0 of T of Unicode",
         Edition::Ansi,
         &unicode_log(),
         64,
         0,
-    );
-    strings_in_turn();
+    )?;
+    strings_in_turn(rt)
 }

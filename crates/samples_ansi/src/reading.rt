@@ -5,11 +5,13 @@ use crate::show::{line, line3, line4, topic};
 use crate::table::{edition, number, patch, what};
 use crate::{Kind, ask};
 use format::{Edition, Record, Refusal, Step};
+use std::io;
 use stores::put;
 
-fn show_numbers(a: Record) {
+fn show_numbers(rt: &impl Print, a: Record) -> io::Result<()> {
     let f = a.fields;
     line(
+        rt,
         b"  number, times, event, type, strings, category, flags",
         &[
             f.record_number as u64,
@@ -21,18 +23,20 @@ fn show_numbers(a: Record) {
             f.event_category as u64,
             f.reserved_flags as u64,
         ],
-    );
+    )
 }
 
-fn show_places(a: Record) {
+fn show_places(rt: &impl Print, a: Record) -> io::Result<()> {
     line4(
+        rt,
         b"  names",
         a.source_name.at as u64,
         a.source_name.len as u64,
         a.computer_name.at as u64,
         a.computer_name.len as u64,
-    );
+    )?;
     line(
+        rt,
         b"  SID, strings and data",
         &[
             a.sid.at as u64,
@@ -42,41 +46,46 @@ fn show_places(a: Record) {
             a.event_data.at as u64,
             a.event_data.len as u64,
         ],
-    );
+    )
 }
 
 // Start and Length, the numbers, and where the parts lie.
-pub fn show_record(what: &[u8], a: Record) {
-    line3(what, 0, a.start as u64, a.length as u64);
-    show_numbers(a);
-    show_places(a);
+pub fn show_record(rt: &impl Print, what: &[u8], a: Record) -> io::Result<()> {
+    line3(rt, what, 0, a.start as u64, a.length as u64)?;
+    show_numbers(rt, a)?;
+    show_places(rt, a)
 }
 
-fn show_step(what: &[u8], x: Step) {
+fn show_step(rt: &impl Print, what: &[u8], x: Step) -> io::Result<()> {
     match x {
-        Step::Found(a) => show_record(what, a),
+        Step::Found(a) => show_record(rt, what, a),
         Step::Refused { refusal: k, at: p } => {
-            line3(what, k.number as u64, k.field as u64, p as u64)
+            line3(rt, what, k.number as u64, k.field as u64, p as u64)
         }
     }
 }
 
 // A place of the log.
-pub fn step(q: &[u8]) {
-    show_step(what(q), record::step(Edition::Ansi, &log(), number(q, 1)));
+pub fn step(rt: &impl Print, q: &[u8]) -> io::Result<()> {
+    show_step(
+        rt,
+        what(q),
+        record::step(Edition::Ansi, &log(), number(q, 1)),
+    )
 }
 
-pub fn step_back(q: &[u8]) {
+pub fn step_back(rt: &impl Print, q: &[u8]) -> io::Result<()> {
     show_step(
+        rt,
         what(q),
         record::step_back(Edition::Ansi, &log(), number(q, 1)),
-    );
+    )
 }
 
 // The record that fills the buffer, from both ends.
-fn steps_of(what: &[u8], r: &[u8]) {
-    show_step(what, record::step(Edition::Ansi, r, 0));
-    show_step(b"  back", record::step_back(Edition::Ansi, r, r.len()));
+fn steps_of(rt: &impl Print, what: &[u8], r: &[u8]) -> io::Result<()> {
+    show_step(rt, what, record::step(Edition::Ansi, r, 0))?;
+    show_step(rt, b"  back", record::step_back(Edition::Ansi, r, r.len()))
 }
 
 // The refusal of the record that ends at a place.
@@ -92,20 +101,22 @@ fn refusal_back(e: Edition, r: &[u8], end: usize) -> Refusal {
 
 // The refusals of the record that fills the buffer, each with its field: of the step at its start, and of the
 // step from its end.
-fn refusals_in(e: Edition, what: &[u8], r: &[u8]) {
+fn refusals_in(rt: &impl Print, e: Edition, what: &[u8], r: &[u8]) -> io::Result<()> {
     let f = record::refusal(e, r, 0);
     let b = refusal_back(e, r, r.len());
     line4(
+        rt,
         what,
         f.number as u64,
         f.field as u64,
         b.number as u64,
         b.field as u64,
-    );
+    )
 }
 
-fn steps() {
+fn steps(rt: &impl Print) -> io::Result<()> {
     ask(
+        rt,
         Kind::Step,
         b"\
 step at 0|0
@@ -115,8 +126,9 @@ step at 1|1
 step at 256|256
 step at the last number|18446744073709551615
 ",
-    );
+    )?;
     ask(
+        rt,
         Kind::StepBack,
         b"\
 step back at 256|256
@@ -126,22 +138,23 @@ step back at 255|255
 step back at 63|63
 step back at 257|257
 ",
-    );
+    )
 }
 
 // A record with bytes put over it, from field k on.
-fn changed(q: &[u8], k: usize, r: &mut [u8]) {
+fn changed(rt: &impl Print, q: &[u8], k: usize, r: &mut [u8]) -> io::Result<()> {
     patch(r, q, k);
-    refusals_in(Edition::Ansi, what(q), r);
+    refusals_in(rt, Edition::Ansi, what(q), r)
 }
 
-pub fn changed_t(q: &[u8]) {
-    changed(q, 1, &mut t());
+pub fn changed_t(rt: &impl Print, q: &[u8]) -> io::Result<()> {
+    changed(rt, q, 1, &mut t())
 }
 
 // 2 to 8.
-fn fixed_fields() {
+fn fixed_fields(rt: &impl Print) -> io::Result<()> {
     ask(
+        rt,
         Kind::ChangedT,
         b"\
 T|0|
@@ -155,12 +168,13 @@ T with flags 1|30|\x01
 T with flags 0x8000|30|\0\x80
 T with 257 strings|26|\x01\x01
 ",
-    );
+    )
 }
 
 // 10 to 13.
-fn parts() {
+fn parts(rt: &impl Print) -> io::Result<()> {
     ask(
+        rt,
         Kind::ChangedT,
         b"\
 T with SID offset 64|44|\x40
@@ -185,19 +199,20 @@ T with 2 bytes of data|48|\x02
 T with 5 bytes of data|48|\x05
 T with 6 bytes of data|48|\x06
 ",
-    );
+    )
 }
 
 // S with bytes put over it.
-pub fn steps_of_s(q: &[u8]) {
+pub fn steps_of_s(rt: &impl Print, q: &[u8]) -> io::Result<()> {
     let mut r = s();
     patch(&mut r, q, 1);
-    steps_of(what(q), &r);
+    steps_of(rt, what(q), &r)
 }
 
 // 9: of S, whose names lie in the four bytes at 56.
-fn names() {
+fn names(rt: &impl Print) -> io::Result<()> {
     ask(
+        rt,
         Kind::StepsOfS,
         b"\
 S with names of 0 and 0 bytes, and a gap of two|56|\0\0AB
@@ -211,12 +226,13 @@ S with a computer name of no bytes that has no end|56|ABC\0
 S with a computer name of one byte that has no end|56|AB\0C
 S with a computer name of three bytes that has no end|56|\0ABC
 ",
-    );
+    )
 }
 
 // The number of strings, their offset, and the bytes from 58 on, where the names of S end.
-fn strings_after_names() {
+fn strings_after_names(rt: &impl Print) -> io::Result<()> {
     ask(
+        rt,
         Kind::StepsOfS,
         b"\
 S with an empty string at 58|26|\x01|36|\x3a|58|\0\0
@@ -229,7 +245,7 @@ S with a string at 59, behind a gap|26|\x01|36|\x3b|58|A\0
 S with a string at Length2|26|\x01|36|\x3c|58|\0\0
 S with a string at 61|26|\x01|36|\x3d|58|\0\0
 ",
-    );
+    )
 }
 
 // T with a gap of seven bytes after its names.
@@ -252,32 +268,34 @@ fn gapless() -> [u8; 88] {
     r
 }
 
-pub fn changed_gapped(q: &[u8]) {
-    changed(q, 1, &mut gapped());
+pub fn changed_gapped(rt: &impl Print, q: &[u8]) -> io::Result<()> {
+    changed(rt, q, 1, &mut gapped())
 }
 
-fn gaps() {
-    steps_of(b"T with a gap of seven bytes", &gapped());
-    steps_of(b"T with no gap", &gapless());
+fn gaps(rt: &impl Print) -> io::Result<()> {
+    steps_of(rt, b"T with a gap of seven bytes", &gapped())?;
+    steps_of(rt, b"T with no gap", &gapless())?;
     ask(
+        rt,
         Kind::ChangedGapped,
         b"T with a gap of seven bytes and one before its string|36|\x55\n",
-    );
+    )
 }
 
 // 320 bytes that are all 0, or 256 that are all 1, with bytes put over them.
-pub fn filled(q: &[u8]) {
+pub fn filled(rt: &impl Print, q: &[u8]) -> io::Result<()> {
     if number(q, 1) == 0 {
-        changed(q, 2, &mut [0u8; 320]);
-        return;
+        changed(rt, q, 2, &mut [0u8; 320])?;
+        return Ok(());
     }
-    changed(q, 2, &mut [1u8; 256]);
+    changed(rt, q, 2, &mut [1u8; 256])
 }
 
 // So many empty strings at 58; and a record of 256 bytes, whose Length2 begins with a zero byte: a name and a string up to
 // it have no end.
-fn long_records() {
+fn long_records(rt: &impl Print) -> io::Result<()> {
     ask(
+        rt,
         Kind::Filled,
         b"\
 256 strings|0|0|\x40\x01\0\0LfLe|26|\0\x01|36|\x3a|316|\x40\x01
@@ -289,27 +307,28 @@ a string up to Length2 256|1|0|\0\x01\0\0LfLe\
 a string up to a zero byte before it|1|0|\0\x01\0\0LfLe\
 \0\0\0\0\0\0\0\0\0\0\0\0\0\0\0\0\0\0\x01\0\0\0\0\0\0\0\0\0\x3a\0\0\0\0\0\0\0\0\0\0\0\0\0\0\0\0\0\0\0\0\0|251|\0\0\x01\0\0
 ",
-    );
+    )
 }
 
 // S, or T in one of both editions; and the edition that it is read in.
-pub fn in_edition(q: &[u8]) {
+pub fn in_edition(rt: &impl Print, q: &[u8]) -> io::Result<()> {
     let e = edition(q, 2);
     let name = number(q, 1);
     if name == 0 {
-        refusals_in(e, what(q), &s());
-        return;
+        refusals_in(rt, e, what(q), &s())?;
+        return Ok(());
     }
     if name == 1 {
-        refusals_in(e, what(q), &t());
-        return;
+        refusals_in(rt, e, what(q), &t())?;
+        return Ok(());
     }
-    refusals_in(e, what(q), &unicode_t());
+    refusals_in(rt, e, what(q), &unicode_t())
 }
 
 // 0 is S, 1 is T in ANSI, 2 is T in Unicode.
-fn editions() {
+fn editions(rt: &impl Print) -> io::Result<()> {
     ask(
+        rt,
         Kind::Edition,
         b"\
 T in Unicode, read in ANSI|2
@@ -319,19 +338,19 @@ T in ANSI, read in ANSI|1
 S in Unicode|0|Unicode
 S in ANSI|0
 ",
-    );
+    )
 }
 
-pub fn reading() {
-    topic(b"steps, from the front and from the rear");
-    steps();
-    topic(b"refusals, from the front and from the rear");
-    fixed_fields();
-    parts();
-    long_records();
-    editions();
-    topic(b"names, strings and gaps");
-    names();
-    strings_after_names();
-    gaps();
+pub fn reading(rt: &impl Print) -> io::Result<()> {
+    topic(rt, b"steps, from the front and from the rear")?;
+    steps(rt)?;
+    topic(rt, b"refusals, from the front and from the rear")?;
+    fixed_fields(rt)?;
+    parts(rt)?;
+    long_records(rt)?;
+    editions(rt)?;
+    topic(rt, b"names, strings and gaps")?;
+    names(rt)?;
+    strings_after_names(rt)?;
+    gaps(rt)
 }

@@ -8,28 +8,32 @@ use crate::table::{field, fields, nth32, number32, second, what};
 use crate::{Kind, ask};
 use format::Edition;
 use runs::{Found, strings_end};
+use std::io;
 use stores::put;
 use text::{ansi_len, ansi_word_len, text_len, unicode_len, width};
 
 // A text's length in ANSI and in Unicode, each by both calls.
-pub fn lengths(q: &[u8]) {
+pub fn lengths(rt: &impl Print, q: &[u8]) -> io::Result<()> {
     let t = field(q, 1);
     line4(
+        rt,
         what(q),
         text_len(Edition::Ansi, t) as u64,
         ansi_len(t) as u64,
         text_len(Edition::Unicode, t) as u64,
         unicode_len(t) as u64,
-    );
+    )
 }
 
-fn short_texts() {
+fn short_texts(rt: &impl Print) -> io::Result<()> {
     line2(
+        rt,
         b"bytes of a unit in Unicode and in ANSI",
         width(Edition::Unicode) as u64,
         width(Edition::Ansi) as u64,
-    );
+    )?;
     ask(
+        rt,
         Kind::Lengths,
         b"\
 the text of no bytes|
@@ -42,7 +46,7 @@ of a zero byte before A|\0A\0
 of eight bytes, the first 0x80, the third zero|\x80A\0AAAAA
 of four units, the first 0x8000, the third zero|\0\x80A\0\0\0AA
 ",
-    );
+    )
 }
 
 // The searches.
@@ -65,50 +69,49 @@ fn found(by: Search, n: usize, at: usize) -> u64 {
 }
 
 // Its answer with a zero byte at each place, and with none.
-fn zero_at_each_place(by: Search, n: usize) {
-    start(b"  zero bytes at each place");
-    let mut at = 0;
-    while at < n {
-        number(found(by, n, at));
-        at += 1;
+fn zero_at_each_place(rt: &impl Print, by: Search, n: usize) -> io::Result<()> {
+    start(rt, b"  zero bytes at each place")?;
+    for at in 0..n {
+        number(rt, found(by, n, at))?;
     }
-    number(found(by, n, n));
-    end();
+    number(rt, found(by, n, n))?;
+    end(rt)
 }
 
-fn texts_of_each_length(by: Search) {
-    let mut n = 0;
-    while n < 41 {
-        zero_at_each_place(by, n);
-        n += 1;
+fn texts_of_each_length(rt: &impl Print, by: Search) -> io::Result<()> {
+    for n in 0..41 {
+        zero_at_each_place(rt, by, n)?;
     }
+    Ok(())
 }
 
-fn words() {
-    start(b"the first word of 0, 7, 8, 9 and 17 bytes");
-    end();
-    zero_at_each_place(Search::Word, 0);
-    zero_at_each_place(Search::Word, 7);
-    zero_at_each_place(Search::Word, 8);
-    zero_at_each_place(Search::Word, 9);
-    zero_at_each_place(Search::Word, 17);
+fn words(rt: &impl Print) -> io::Result<()> {
+    start(rt, b"the first word of 0, 7, 8, 9 and 17 bytes")?;
+    end(rt)?;
+    zero_at_each_place(rt, Search::Word, 0)?;
+    zero_at_each_place(rt, Search::Word, 7)?;
+    zero_at_each_place(rt, Search::Word, 8)?;
+    zero_at_each_place(rt, Search::Word, 9)?;
+    zero_at_each_place(rt, Search::Word, 17)
 }
 
 // 300 bytes with a zero byte at a place, by both searches.
-pub fn long_lengths(q: &[u8]) {
+pub fn long_lengths(rt: &impl Print, q: &[u8]) -> io::Result<()> {
     let mut s = [1u8; 300];
     put(&mut s, crate::table::number(q, 1), b"\0");
     line2(
+        rt,
         what(q),
         text_len(Edition::Ansi, &s) as u64,
         ansi_len(&s) as u64,
-    );
+    )
 }
 
-fn long_texts() {
-    texts_of_each_length(Search::Text);
-    texts_of_each_length(Search::Name);
+fn long_texts(rt: &impl Print) -> io::Result<()> {
+    texts_of_each_length(rt, Search::Text)?;
+    texts_of_each_length(rt, Search::Name)?;
     ask(
+        rt,
         Kind::LongLengths,
         b"\
 300 bytes, zero at 30|30
@@ -124,7 +127,7 @@ at 288|288
 at 299|299
 nowhere|300
 ",
-    );
+    )
 }
 
 // Where so many strings end; 99 where there are not so many.
@@ -136,15 +139,12 @@ fn end_in(s: &[u8], count: u32) -> u64 {
 }
 
 // Each field is a number of strings, and bytes.
-pub fn ends_of(q: &[u8]) {
-    start(what(q));
-    let n = fields(q);
-    let mut k = 0usize;
-    while k < n {
-        k += 1;
-        number(end_of_field(field(q, k)));
+pub fn ends_of(rt: &impl Print, q: &[u8]) -> io::Result<()> {
+    start(rt, what(q))?;
+    for k in 0..fields(q) {
+        number(rt, end_of_field(field(q, k + 1)))?;
     }
-    end();
+    end(rt)
 }
 
 fn end_of_field(t: &[u8]) -> u64 {
@@ -160,16 +160,14 @@ fn end_of(first: usize, second: usize, count: u32) -> u64 {
 }
 
 // A zero byte at a place, and another one at each place; and a number of strings.
-pub fn ends(q: &[u8]) {
-    start(what(q));
+pub fn ends(rt: &impl Print, q: &[u8]) -> io::Result<()> {
+    start(rt, what(q))?;
     let first = crate::table::number(q, 1);
     let count = number32(q, 2);
-    let mut at = 0;
-    while at < 40 {
-        number(end_of(first, at, count));
-        at += 1;
+    for at in 0..40 {
+        number(rt, end_of(first, at, count))?;
     }
-    end();
+    end(rt)
 }
 
 // Puts these bytes over the others again and again, as often as there is room.
@@ -183,21 +181,19 @@ fn fill(out: &mut [u8], t: &[u8]) {
 }
 
 // 700 bytes of these strings again and again, and numbers of strings.
-pub fn long_ends(q: &[u8]) {
+pub fn long_ends(rt: &impl Print, q: &[u8]) -> io::Result<()> {
     let mut s = [1u8; 700];
     fill(&mut s, field(q, 1));
-    start(what(q));
-    let n = fields(q);
-    let mut k = 1usize;
-    while k < n {
-        k += 1;
-        number(end_in(&s, number32(q, k)));
+    start(rt, what(q))?;
+    for k in 1..fields(q) {
+        number(rt, end_in(&s, number32(q, k + 1)))?;
     }
-    end();
+    end(rt)
 }
 
-fn long_runs() {
+fn long_runs(rt: &impl Print) -> io::Result<()> {
     ask(
+        rt,
         Kind::LongEnds,
         b"\
 strings of 1 in 700 bytes|A\0|256|257|320|321|350|351
@@ -206,18 +202,20 @@ strings of 1 to 20 in 700 bytes|A\0AB\0ABC\0ABCD\0ABCDE\0ABCDEF\0ABCDEFG\0ABCDEF
 ABCDEFGHIJK\0ABCDEFGHIJKL\0ABCDEFGHIJKLM\0ABCDEFGHIJKLMN\0ABCDEFGHIJKLMNO\0\
 ABCDEFGHIJKLMNOP\0ABCDEFGHIJKLMNOPQ\0ABCDEFGHIJKLMNOPQR\0ABCDEFGHIJKLMNOPQRS\0ABCDEFGHIJKLMNOPQRST\0|11|40|41|55|60|61
 ",
-    );
+    )
 }
 
-fn strings() {
+fn strings(rt: &impl Print) -> io::Result<()> {
     ask(
+        rt,
         Kind::EndsOf,
         b"\
 ends of 0 to 4 strings|0,A\0\0BB\0C|1,A\0\0BB\0C|2,A\0\0BB\0C|3,A\0\0BB\0C|4,A\0\0BB\0C
 a string of no bytes, of one, and one that has no end|1,|1,\0|1,ABC
 ",
-    );
+    )?;
     ask(
+        rt,
         Kind::Ends,
         b"\
 one string, a zero byte at 39 and at each place|39|1
@@ -232,14 +230,14 @@ two strings, at 20|20|2
 two strings, at 36|36|2
 three strings, at 5|5|3
 ",
-    );
+    )
 }
 
-pub fn texts() {
-    topic(b"texts and strings");
-    short_texts();
-    long_texts();
-    words();
-    strings();
-    long_runs();
+pub fn texts(rt: &impl Print) -> io::Result<()> {
+    topic(rt, b"texts and strings")?;
+    short_texts(rt)?;
+    long_texts(rt)?;
+    words(rt)?;
+    strings(rt)?;
+    long_runs(rt)
 }

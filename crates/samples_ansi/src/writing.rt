@@ -6,6 +6,7 @@ use crate::table::{edition, field, find, number, what};
 use crate::{Kind, ask};
 use format::{Appended, Edition, Step, Written};
 use places::measure;
+use std::io;
 use stores::put;
 
 // The event of a question: its numbers, source, computer, SID, strings and data.
@@ -36,40 +37,44 @@ fn refusal(e: Edition, q: &[u8]) -> u32 {
 }
 
 // Into a buffer of 104 bytes.
-pub fn record(q: &[u8]) {
+pub fn record(rt: &impl Print, q: &[u8]) -> io::Result<()> {
     let mut out = [0xaau8; 104];
     let w = write(q, &mut out);
     line3(
+        rt,
         what(q),
         w.refusal as u64,
         w.length as u64,
         refusal(Edition::Ansi, q) as u64,
-    );
-    output(&out);
+    )?;
+    output(rt, &out)
 }
 
-fn records() {
+fn records(rt: &impl Print) -> io::Result<()> {
     ask(
+        rt,
         Kind::Record,
         b"\
 S|7
 T|8,0,1|Scale|T1|\x01\x01\0\0\0\0\0\0\0\0\0\0|OK\0|\0\0\0
 U|9,4,3,32768,1001,1002,1003,7|Pans|K|\x01\x02\0\0\0\0\0\x05\x15\0\0\0\x20\x02\0\0|A\0\0Tare\0|\xd1\xd2\xd3\xd4\xd5
 ",
-    );
+    )
 }
 
 // The refusals of an event in ANSI and in Unicode.
-pub fn refusals(q: &[u8]) {
+pub fn refusals(rt: &impl Print, q: &[u8]) -> io::Result<()> {
     line2(
+        rt,
         what(q),
         refusal(Edition::Ansi, q) as u64,
         refusal(Edition::Unicode, q) as u64,
-    );
+    )
 }
 
-fn events() {
+fn events(rt: &impl Print) -> io::Result<()> {
     ask(
+        rt,
         Kind::Refusals,
         b"\
 names of no bytes|7
@@ -97,7 +102,7 @@ flags 1|7,0,0,1|A\0B
 257 strings|7,0,257|A\0B
 a SID of 7 bytes|7,0,1|||\x01\0\0\0\0\0\0
 ",
-    );
+    )
 }
 
 // An event with no parts but data.
@@ -107,35 +112,37 @@ fn data_refusal(e: Edition, event_data: &[u8]) -> u64 {
     c.refusal as u64
 }
 
-fn most_data(event_data: &[u8; 61441]) {
+fn most_data(rt: &impl Print, event_data: &[u8; 61441]) -> io::Result<()> {
     line2(
+        rt,
         b"61441 bytes of data",
         data_refusal(Edition::Ansi, event_data),
         data_refusal(Edition::Unicode, event_data),
-    );
+    )
 }
 
 // An event into so much room, which its last field says.
-pub fn room(q: &[u8]) {
-    room_in(q, &mut [0xaau8; 70]);
+pub fn room(rt: &impl Print, q: &[u8]) -> io::Result<()> {
+    room_in(rt, q, &mut [0xaau8; 70])
 }
 
-fn room_in(q: &[u8], out: &mut [u8]) {
+fn room_in(rt: &impl Print, q: &[u8], out: &mut [u8]) -> io::Result<()> {
     let n = number(q, 7);
     if n <= out.len() {
-        room_of(q, &mut out[..n]);
+        room_of(rt, q, &mut out[..n])?;
     }
+    Ok(())
 }
 
-fn room_of(q: &[u8], out: &mut [u8]) {
+fn room_of(rt: &impl Print, q: &[u8], out: &mut [u8]) -> io::Result<()> {
     let w = write(q, out);
-    line2(what(q), w.refusal as u64, w.length as u64);
-    output(out);
+    line2(rt, what(q), w.refusal as u64, w.length as u64)?;
+    output(rt, out)
 }
 
 // The edition and five lengths: the gap after the names, the places of SID, strings and data, the gap before Length2, and
 // the Length.
-pub fn places(q: &[u8]) {
+pub fn places(rt: &impl Print, q: &[u8]) -> io::Result<()> {
     let p = measure(
         edition(q, 1),
         number(q, 2),
@@ -145,6 +152,7 @@ pub fn places(q: &[u8]) {
         number(q, 6),
     );
     line(
+        rt,
         what(q),
         &[
             p.gap as u64,
@@ -154,19 +162,21 @@ pub fn places(q: &[u8]) {
             p.end_gap as u64,
             p.length as u64,
         ],
-    );
+    )
 }
 
-fn measures() {
+fn measures(rt: &impl Print) -> io::Result<()> {
     ask(
+        rt,
         Kind::Room,
         b"\
 64 bytes into 64|7|AB|||||64
 64 bytes into 63|7|AB|||||63
 68 bytes into 70|7|ABC|||||70
 ",
-    );
+    )?;
     ask(
+        rt,
         Kind::Places,
         b"\
 places of S||0|0|0|0|0
@@ -179,7 +189,7 @@ Length 262140||200638|0|0|0|61440
 Length 262144||200639|0|0|0|61440
 a name as long as a number can be||18446744073709551615|0|0|0|0
 ",
-    );
+    )
 }
 
 // The fields: how much of the log is used; the numbers, source, computer, SID, strings and data; the edition; the place
@@ -198,63 +208,69 @@ fn append_to(q: &[u8], log: &mut [u8]) -> Appended {
     )
 }
 
-fn append_one(q: &[u8], log: &mut [u8]) {
+fn append_one(rt: &impl Print, q: &[u8], log: &mut [u8]) -> io::Result<()> {
     let a = append_to(q, log);
     let k = a.refusal;
-    line3(what(q), k.number as u64, k.field as u64, a.used as u64);
+    line3(rt, what(q), k.number as u64, k.field as u64, a.used as u64)?;
     if number(q, 9) > 0 {
-        last(log, number(q, 9));
+        last(rt, log, number(q, 9))?;
     }
+    Ok(())
 }
 
 // Each line of a table, to one log, which begins with a record.
-fn append_all(first: &[u8], table: &[u8], log: &mut [u8]) {
+fn append_all(rt: &impl Print, first: &[u8], table: &[u8], log: &mut [u8]) -> io::Result<()> {
     put(log, 0, first);
     let mut at = 0usize;
     while at < table.len() {
         let end = find(table, at, b'\n');
         if end >= table.len() {
-            return;
+            return Ok(());
         }
-        append_one(part(table, at, end), log);
+        append_one(rt, part(table, at, end), log)?;
         at = end + 1;
     }
+    Ok(())
 }
 
 // The number and the start of the record that ends at a place.
-fn last(log: &[u8], end: usize) {
+fn last(rt: &impl Print, log: &[u8], end: usize) -> io::Result<()> {
     match record::step_back(Edition::Ansi, log, end) {
         Step::Found(a) => line2(
+            rt,
             b"  the last record's number and start",
             a.fields.record_number as u64,
             a.start as u64,
         ),
-        Step::Refused { refusal: k, at: p } => line2(b"  refused", k.number as u64, p as u64),
+        Step::Refused { refusal: k, at: p } => line2(rt, b"  refused", k.number as u64, p as u64),
     }
 }
 
-fn grow(log: &mut [u8]) {
+fn grow(rt: &impl Print, log: &mut [u8]) -> io::Result<()> {
     append_all(
+        rt,
         &s(),
         b"\
 T after S|64|,0,1|Scale|T1|\x01\x01\0\0\0\0\0\0\0\0\0\0|OK\0|\0\0\0||156
 a record with a name of 3 bytes after it|156||ABC||||||224
 ",
         log,
-    );
-    bytes(b"  the log", log);
+    )?;
+    bytes(rt, b"  the log", log)
 }
 
-fn first_record(log: &mut [u8]) {
+fn first_record(rt: &impl Print, log: &mut [u8]) -> io::Result<()> {
     append_one(
+        rt,
         b"T to an empty log|0|,0,1|Scale|T1|\x01\x01\0\0\0\0\0\0\0\0\0\0|OK\0|\0\0\0",
         log,
-    );
-    bytes(b"  the log", log);
+    )?;
+    bytes(rt, b"  the log", log)
 }
 
-fn no_room(log: &mut [u8]) {
+fn no_room(rt: &impl Print, log: &mut [u8]) -> io::Result<()> {
     append_all(
+        rt,
         &s(),
         b"\
 T after S, a byte too little|64|,0,1|Scale|T1|\x01\x01\0\0\0\0\0\0\0\0\0\0|OK\0|\0\0\0
@@ -264,39 +280,41 @@ behind a part of S|63|,0,1|Scale|T1|\x01\x01\0\0\0\0\0\0\0\0\0\0|OK\0|\0\0\0
 used past the buffer|156|,0,1|Scale|T1|\x01\x01\0\0\0\0\0\0\0\0\0\0|OK\0|\0\0\0||64
 ",
         log,
-    );
-    bytes(b"  the log", log);
+    )?;
+    bytes(rt, b"  the log", log)
 }
 
 // Behind a record of the other edition.
-fn other_edition() {
+fn other_edition(rt: &impl Print) -> io::Result<()> {
     append_all(
+        rt,
         &unicode_t(),
         b"\
 behind T of Unicode, in ANSI|104
 behind T of Unicode, in Unicode|104|||||||Unicode
 ",
         &mut [0xaau8; 200],
-    );
+    )?;
     append_all(
+        rt,
         &log(),
         b"\
 behind U of ANSI, in Unicode|256|||||||Unicode
 behind U of ANSI, in ANSI|256||||||||320
 ",
         &mut [0xaau8; 320],
-    );
+    )
 }
 
-pub fn writing() {
-    topic(b"writing");
-    records();
-    events();
-    most_data(&[0u8; 61441]);
-    measures();
-    topic(b"appending");
-    grow(&mut [0xaau8; 230]);
-    first_record(&mut [0xaau8; 96]);
-    no_room(&mut [0xaau8; 155]);
-    other_edition();
+pub fn writing(rt: &impl Print) -> io::Result<()> {
+    topic(rt, b"writing")?;
+    records(rt)?;
+    events(rt)?;
+    most_data(rt, &[0u8; 61441])?;
+    measures(rt)?;
+    topic(rt, b"appending")?;
+    grow(rt, &mut [0xaau8; 230])?;
+    first_record(rt, &mut [0xaau8; 96])?;
+    no_room(rt, &mut [0xaau8; 155])?;
+    other_edition(rt)
 }

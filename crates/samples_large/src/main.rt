@@ -5,18 +5,18 @@
 #![tactic(auto)]
 
 use format::{Edition, Fields, Step, Unnumbered};
-use libc::STDOUT_FILENO;
 use serve::Handle;
+use std::io;
 use stores::put;
 
 // What was asked, and two numbers that answer it.
-fn line(what: &[u8], a: u64, b: u64) {
-    io::write_all(STDOUT_FILENO, what);
-    io::write_all(STDOUT_FILENO, b": ");
-    io::print_decimal(STDOUT_FILENO, a);
-    io::write_all(STDOUT_FILENO, b" ");
-    io::print_decimal(STDOUT_FILENO, b);
-    io::write_all(STDOUT_FILENO, b"\n");
+fn line(rt: &impl Print, what: &[u8], a: u64, b: u64) -> io::Result<()> {
+    rt.write_all(what)?;
+    rt.write_all(b": ")?;
+    rt.print(a)?;
+    rt.write_all(b" ")?;
+    rt.print(b)?;
+    rt.write_all(b"\n")
 }
 
 // The refusal of the record that ends at a place.
@@ -42,68 +42,82 @@ fn string_head() -> [u8; 60] {
     h
 }
 
-fn refusals(what: &[u8], r: &[u8]) {
+fn refusals(rt: &impl Print, what: &[u8], r: &[u8]) -> io::Result<()> {
     line(
+        rt,
         what,
         record::refusal(Edition::Unicode, r, 0).number as u64,
         refusal_back(r, r.len()),
-    );
+    )
 }
 
 // A record of ones, as long as the buffer, with this start: its only text runs up to Length2.
-fn unended(what: &[u8], r: &mut [u8], head: &[u8], length2_at: usize, length: &[u8]) {
+fn unended(
+    rt: &impl Print,
+    what: &[u8],
+    r: &mut [u8],
+    head: &[u8],
+    length2_at: usize,
+    length: &[u8],
+) -> io::Result<()> {
     put(r, 0, head);
     put(r, 0, length);
     put(r, length2_at, length);
-    refusals(what, r);
+    refusals(rt, what, r)
 }
 
-fn names(head: &[u8; 56]) {
+fn names(rt: &impl Print, head: &[u8; 56]) -> io::Result<()> {
     unended(
+        rt,
         b"a name up to Length2 65536",
         &mut [1u8; 65536],
         head,
         65532,
         b"\0\0\x01\0",
-    );
+    )?;
     unended(
+        rt,
         b"a name up to Length2 131072",
         &mut [1u8; 131072],
         head,
         131068,
         b"\0\0\x02\0",
-    );
+    )?;
     unended(
+        rt,
         b"a name up to Length2 196608",
         &mut [1u8; 196608],
         head,
         196604,
         b"\0\0\x03\0",
-    );
+    )
 }
 
-fn last_strings(head: &[u8; 60]) {
+fn last_strings(rt: &impl Print, head: &[u8; 60]) -> io::Result<()> {
     unended(
+        rt,
         b"a string up to Length2 65536",
         &mut [1u8; 65536],
         head,
         65532,
         b"\0\0\x01\0",
-    );
+    )?;
     unended(
+        rt,
         b"a string up to Length2 131072",
         &mut [1u8; 131072],
         head,
         131068,
         b"\0\0\x02\0",
-    );
+    )?;
     unended(
+        rt,
         b"a string up to Length2 196608",
         &mut [1u8; 196608],
         head,
         196604,
         b"\0\0\x03\0",
-    );
+    )
 }
 
 // 255 empty strings and a long one, 100,000 bytes in all.
@@ -115,7 +129,13 @@ fn strings() -> [u8; 100000] {
 }
 
 // With this source name, a computer name of 40,624 bytes, a SID, 256 strings and 61,440 bytes of data.
-fn write(what: &[u8], source: &[u8], strings: &[u8; 100000], log: &mut [u8]) {
+fn write(
+    rt: &impl Print,
+    what: &[u8],
+    source: &[u8],
+    strings: &[u8; 100000],
+    log: &mut [u8],
+) -> io::Result<()> {
     let f = Fields {
         record_number: 41,
         time_generated: 0,
@@ -136,10 +156,16 @@ fn write(what: &[u8], source: &[u8], strings: &[u8; 100000], log: &mut [u8]) {
         &[3u8; 61440],
         log,
     );
-    line(what, w.refusal as u64, w.length as u64);
+    line(rt, what, w.refusal as u64, w.length as u64)
 }
 
-fn append(what: &[u8], source: &[u8], strings: &[u8; 100000], log: &mut [u8]) {
+fn append(
+    rt: &impl Print,
+    what: &[u8],
+    source: &[u8],
+    strings: &[u8; 100000],
+    log: &mut [u8],
+) -> io::Result<()> {
     let f = Unnumbered {
         time_generated: 0,
         time_written: 0,
@@ -160,42 +186,68 @@ fn append(what: &[u8], source: &[u8], strings: &[u8; 100000], log: &mut [u8]) {
         strings,
         &[3u8; 61440],
     );
-    line(what, a.refusal.number as u64, a.used as u64);
+    line(rt, what, a.refusal.number as u64, a.used as u64)
 }
 
 // A read of one record, and the number of the record at the output's start.
-fn read(what: &[u8], log: &[u8], flags: u32, out: &mut [u8]) {
+fn read(rt: &impl Print, what: &[u8], log: &[u8], flags: u32, out: &mut [u8]) -> io::Result<()> {
     let a = Handle::fresh(0x3F).read(Edition::Unicode, log, flags, 0, 262140, out);
-    line(what, a.status as u64, a.read as u64);
+    line(rt, what, a.status as u64, a.read as u64)?;
     line(
+        rt,
         b"  its number, and its refusal",
         numbers::u32_at(out, 8) as u64,
         record::refusal(Edition::Unicode, out, 0).number as u64,
-    );
+    )
 }
 
-fn answers(log: &[u8]) {
+fn answers(rt: &impl Print, log: &[u8]) -> io::Result<()> {
     line(
+        rt,
         b"the first record, from its start and its end",
         record::refusal(Edition::Unicode, log, 0).number as u64,
         refusal_back(log, 262140),
-    );
+    )?;
     let w = walk::walk(Edition::Unicode, log);
-    line(b"walk", w.count as u64, w.refusal.number as u64);
+    line(rt, b"walk", w.count as u64, w.refusal.number as u64)?;
     let b = walk::walk_back(Edition::Unicode, log);
-    line(b"walk back", b.count as u64, b.refusal.number as u64);
-    read(b"forwards", log, 5, &mut [0u8; 262140]);
-    read(b"backwards", log, 9, &mut [0u8; 262140]);
+    line(rt, b"walk back", b.count as u64, b.refusal.number as u64)?;
+    read(rt, b"forwards", log, 5, &mut [0u8; 262140])?;
+    read(rt, b"backwards", log, 9, &mut [0u8; 262140])
 }
 
-fn main() {
+fn main(rt: HostRuntime) -> io::Result<()> {
     let strings = strings();
     let mut log = [0u8; 524280];
-    names(&name_head());
-    last_strings(&string_head());
-    write(b"write 262144 bytes", &[1u8; 60004], &strings, &mut log);
-    write(b"write 262140 bytes", &[1u8; 60000], &strings, &mut log);
-    append(b"append 262144 bytes", &[1u8; 60004], &strings, &mut log);
-    append(b"append 262140 bytes", &[1u8; 60000], &strings, &mut log);
-    answers(&log);
+    names(&rt, &name_head())?;
+    last_strings(&rt, &string_head())?;
+    write(
+        &rt,
+        b"write 262144 bytes",
+        &[1u8; 60004],
+        &strings,
+        &mut log,
+    )?;
+    write(
+        &rt,
+        b"write 262140 bytes",
+        &[1u8; 60000],
+        &strings,
+        &mut log,
+    )?;
+    append(
+        &rt,
+        b"append 262144 bytes",
+        &[1u8; 60004],
+        &strings,
+        &mut log,
+    )?;
+    append(
+        &rt,
+        b"append 262140 bytes",
+        &[1u8; 60000],
+        &strings,
+        &mut log,
+    )?;
+    answers(&rt, &log)
 }

@@ -11,6 +11,7 @@ use crate::show::{bytes, line};
 use eventlog_serving::{eventlog_fresh, eventlog_read, eventlog_types_count};
 use format::Edition;
 use serve::{Handle, Place};
+use std::io;
 use stores::put;
 
 fn record(number: u8, kind: u8) -> [u8; 64] {
@@ -56,7 +57,15 @@ fn at_of(place: Place) -> u64 {
 }
 
 // A read, and then nine bytes of its output.
-fn read(log: &[u8], at: usize, types: u32, flags: u32, number: u32, size: usize) {
+fn read(
+    rt: &impl Print,
+    log: &[u8],
+    at: usize,
+    types: u32,
+    flags: u32,
+    number: u32,
+    size: usize,
+) -> io::Result<()> {
     let mut out = [0xaau8; 300];
     let h = Handle {
         place: place_from(at),
@@ -66,6 +75,7 @@ fn read(log: &[u8], at: usize, types: u32, flags: u32, number: u32, size: usize)
     let next = a.handle;
     let place = next.place;
     line(
+        rt,
         b"read",
         &[
             log.len() as u64,
@@ -80,55 +90,77 @@ fn read(log: &[u8], at: usize, types: u32, flags: u32, number: u32, size: usize)
             at_of(place),
             next.types as u64,
         ],
-    );
-    shown(&out);
+    )?;
+    shown(rt, &out)
 }
 
-fn shown(out: &[u8; 300]) {
+fn shown(rt: &impl Print, out: &[u8; 300]) -> io::Result<()> {
     bytes(
+        rt,
         b"  output",
         &[
             out[0], out[8], out[64], out[72], out[128], out[136], out[192], out[200], out[256],
         ],
-    );
+    )
 }
 
-fn sizes(log: &[u8], at: usize, types: u32, flags: u32, number: u32, sizes: &[usize]) {
-    let mut i = 0;
-    while i < sizes.len() {
-        read(log, at, types, flags, number, sizes[i]);
-        i += 1;
+fn sizes(
+    rt: &impl Print,
+    log: &[u8],
+    at: usize,
+    types: u32,
+    flags: u32,
+    number: u32,
+    sizes: &[usize],
+) -> io::Result<()> {
+    for size in sizes {
+        read(rt, log, at, types, flags, number, *size)?;
     }
+    Ok(())
 }
 
-fn four(log: &[u8], at: usize, types: u32, flags: u32, number: u32) {
-    sizes(log, at, types, flags, number, &[63, 64, 128, 300]);
+fn four(
+    rt: &impl Print,
+    log: &[u8],
+    at: usize,
+    types: u32,
+    flags: u32,
+    number: u32,
+) -> io::Result<()> {
+    sizes(rt, log, at, types, flags, number, &[63, 64, 128, 300])
 }
 
-fn sets(log: &[u8], at: usize, flags: u32, number: u32, sets: &[u32]) {
-    let mut i = 0;
-    while i < sets.len() {
-        four(log, at, sets[i], flags, number);
-        i += 1;
+fn sets(
+    rt: &impl Print,
+    log: &[u8],
+    at: usize,
+    flags: u32,
+    number: u32,
+    sets: &[u32],
+) -> io::Result<()> {
+    for set in sets {
+        four(rt, log, at, *set, flags, number)?;
     }
+    Ok(())
 }
 
 // All sets, with a fresh handle.
-fn fresh(log: &[u8], flags: u32, number: u32) {
+fn fresh(rt: &impl Print, log: &[u8], flags: u32, number: u32) -> io::Result<()> {
     sets(
+        rt,
         log,
         1000,
         flags,
         number,
         &[63, 4, 32, 16, 0, 64, 68, 4294967295],
-    );
+    )
 }
 
 // Some, from a boundary.
-fn onward(log: &[u8], at: usize) {
-    sets(log, at, 5, 0, &[63, 4, 32]);
-    sets(log, at, 9, 0, &[63, 4, 32]);
-    sets(log, at, 6, 9, &[4, 64]);
+fn onward(rt: &impl Print, log: &[u8], at: usize) -> io::Result<()> {
+    sets(rt, log, at, 5, 0, &[63, 4, 32])?;
+    sets(rt, log, at, 9, 0, &[63, 4, 32])?;
+    sets(rt, log, at, 6, 9, &[4, 64])
 }
 
 fn flag(b: bool) -> u64 {
@@ -138,23 +170,24 @@ fn flag(b: bool) -> u64 {
     0
 }
 
-fn want(set: u32, x: u16) {
+fn want(rt: &impl Print, set: u32, x: u16) -> io::Result<()> {
     line(
+        rt,
         b"wants",
         &[set as u64, x as u64, flag(event_types::wants(set, x))],
-    );
+    )
 }
 
-fn wants(set: u32, types: &[u16]) {
-    let mut i = 0;
-    while i < types.len() {
-        want(set, types[i]);
-        i += 1;
+fn wants(rt: &impl Print, set: u32, types: &[u16]) -> io::Result<()> {
+    for x in types {
+        want(rt, set, *x)?;
     }
+    Ok(())
 }
 
-fn set(set: u32) {
+fn set(rt: &impl Print, set: u32) -> io::Result<()> {
     line(
+        rt,
         b"set",
         &[
             set as u64,
@@ -162,28 +195,30 @@ fn set(set: u32) {
             eventlog_types_count(set) as u64,
             flag(event_types::is_set(set)),
         ],
-    );
-    wants(set, &[0, 1, 2, 3, 4, 8, 16, 32, 64, 65535]);
+    )?;
+    wants(rt, set, &[0, 1, 2, 3, 4, 8, 16, 32, 64, 65535])
 }
 
-fn handles() {
+fn handles(rt: &impl Print) -> io::Result<()> {
     let h = Handle::fresh(4);
     let place = h.place;
-    line(b"fresh", &[at_of(place), h.types as u64]);
+    line(rt, b"fresh", &[at_of(place), h.types as u64])?;
     let c = eventlog_fresh(70);
     line(
+        rt,
         b"fresh",
         &[c.kind as u64, c.types as u64, c.boundary as u64],
-    );
+    )
 }
 
 // The same across the border to C: a read that succeeds, and one that is refused.
-fn border(log: &[u8], types: u32, size: usize) {
+fn border(rt: &impl Print, log: &[u8], types: u32, size: usize) -> io::Result<()> {
     let mut out = [0xaau8; 300];
     let h = eventlog_fresh(types);
     let a = eventlog_read(0, h, log, 5, 0, size, &mut out);
     let next = a.handle;
     line(
+        rt,
         b"border",
         &[
             types as u64,
@@ -195,33 +230,33 @@ fn border(log: &[u8], types: u32, size: usize) {
             next.types as u64,
             next.boundary as u64,
         ],
-    );
-    shown(&out);
+    )?;
+    shown(rt, &out)
 }
 
-fn reads(log: &[u8]) {
-    fresh(log, 5, 0);
-    fresh(log, 9, 0);
-    fresh(log, 6, 8);
-    fresh(log, 10, 9);
-    fresh(log, 6, 11);
-    fresh(log, 7, 0);
+fn reads(rt: &impl Print, log: &[u8]) -> io::Result<()> {
+    fresh(rt, log, 5, 0)?;
+    fresh(rt, log, 9, 0)?;
+    fresh(rt, log, 6, 8)?;
+    fresh(rt, log, 10, 9)?;
+    fresh(rt, log, 6, 11)?;
+    fresh(rt, log, 7, 0)
 }
 
-fn boundaries(log: &[u8]) {
-    onward(log, 0);
-    onward(log, 64);
-    onward(log, 192);
-    onward(log, 256);
-    onward(log, 400);
+fn boundaries(rt: &impl Print, log: &[u8]) -> io::Result<()> {
+    onward(rt, log, 0)?;
+    onward(rt, log, 64)?;
+    onward(rt, log, 192)?;
+    onward(rt, log, 256)?;
+    onward(rt, log, 400)
 }
 
 // An unwanted record is skipped, also where it does not fit into what is left of the output.
-fn skips() {
+fn skips(rt: &impl Print) -> io::Result<()> {
     let s = long_between();
-    read(&s, 1000, 4, 5, 0, 128);
-    read(&s, 1000, 4, 9, 0, 128);
-    read(&s, 1000, 63, 5, 0, 128);
+    read(rt, &s, 1000, 4, 5, 0, 128)?;
+    read(rt, &s, 1000, 4, 9, 0, 128)?;
+    read(rt, &s, 1000, 63, 5, 0, 128)
 }
 
 // The bytes up to a place, none where they are not there.
@@ -232,20 +267,20 @@ fn part(s: &[u8], to: usize) -> &[u8] {
     &s[..0]
 }
 
-fn main() {
-    handles();
-    set(0);
-    set(1);
-    set(32);
-    set(33);
-    set(63);
-    set(64);
-    set(4294967295);
+fn main(rt: HostRuntime) -> io::Result<()> {
+    handles(&rt)?;
+    set(&rt, 0)?;
+    set(&rt, 1)?;
+    set(&rt, 32)?;
+    set(&rt, 33)?;
+    set(&rt, 63)?;
+    set(&rt, 64)?;
+    set(&rt, 4294967295)?;
     let s = log();
-    reads(part(&s, 256));
-    reads(&s);
-    boundaries(part(&s, 256));
-    border(&s, 4, 64);
-    border(&s, 32, 63);
-    skips();
+    reads(&rt, part(&s, 256))?;
+    reads(&rt, &s)?;
+    boundaries(&rt, part(&s, 256))?;
+    border(&rt, &s, 4, 64)?;
+    border(&rt, &s, 32, 63)?;
+    skips(&rt)
 }

@@ -1,48 +1,44 @@
 // How a question and its answer are written: a line of text and numbers, or of bytes.
 
-use libc::STDOUT_FILENO;
+use std::io;
 
-fn numbers(xs: &[u64]) {
-    let mut i = 0;
-    while i < xs.len() {
-        io::write_all(STDOUT_FILENO, b" ");
-        io::print_decimal(STDOUT_FILENO, xs[i]);
-        i += 1;
+fn numbers(rt: &impl Print, xs: &[u64]) -> io::Result<()> {
+    for x in xs {
+        print!(rt; " {x}")?;
     }
+    Ok(())
 }
 
 // A question, and the numbers that answer it.
-pub fn line(what: &[u8], answers: &[u64]) {
-    io::write_all(STDOUT_FILENO, what);
-    io::write_all(STDOUT_FILENO, b":");
-    numbers(answers);
-    io::write_all(STDOUT_FILENO, b"\n");
+pub fn line(rt: &impl Print, what: &[u8], answers: &[u64]) -> io::Result<()> {
+    rt.write_all(what)?;
+    rt.write_all(b":")?;
+    numbers(rt, answers)?;
+    rt.write_all(b"\n")
 }
 
 fn wide(x: u8) -> u64 {
     x as u64
 }
 
-fn hex(s: &[u8]) {
-    let mut i = 0;
-    while i < s.len() {
-        io::write_all(STDOUT_FILENO, b" ");
-        io::print_hex(STDOUT_FILENO, wide(s[i]), 2);
-        i += 1;
+fn hex(rt: &impl Print, s: &[u8]) -> io::Result<()> {
+    for x in s {
+        print!(rt; " {:02x}", wide(*x))?;
     }
+    Ok(())
 }
 
 // A question, and the bytes that answer it, in hexadecimal.
-pub fn bytes(what: &[u8], s: &[u8]) {
-    io::write_all(STDOUT_FILENO, what);
-    io::write_all(STDOUT_FILENO, b":");
-    hex(s);
-    io::write_all(STDOUT_FILENO, b"\n");
+pub fn bytes(rt: &impl Print, what: &[u8], s: &[u8]) -> io::Result<()> {
+    rt.write_all(what)?;
+    rt.write_all(b":")?;
+    hex(rt, s)?;
+    rt.write_all(b"\n")
 }
 
 // A heading.
-pub fn topic(name: &[u8]) {
-    io::write_all(STDOUT_FILENO, b"\n# ");
-    io::write_all(STDOUT_FILENO, name);
-    io::write_all(STDOUT_FILENO, b"\n");
+pub fn topic(rt: &impl Print, name: &[u8]) -> io::Result<()> {
+    rt.write_all(b"\n# ")?;
+    rt.write_all(name)?;
+    rt.write_all(b"\n")
 }

@@ -1,5 +1,5 @@
 //! How long the proved library takes, and two ordinary ones; run on request:
-//! `bash library.sh`, `rt staticlib searches`, and then
+//! `bash library.sh`, `rt lib` in crates/searches_c, and then
 //! `cargo run --release --offline -p bench`. It prints tables in Markdown. Words
 //! after `--` choose the rows whose names have one of them. With `--write FOLDER`
 //! it writes the tables to `benchmark.md` in that folder as well, and a picture of

@@ -1167,13 +1167,13 @@ fn parts_of(event: &Made) -> [&[u8]; 5] {
 
 /// What the program `list` writes for a batch on its standard input.
 fn run_program(s: &[u8], piece: usize) -> Output {
-    let path = Path::new(env!("CARGO_MANIFEST_DIR")).join("../../target/bin/list");
+    let path = Path::new(env!("CARGO_MANIFEST_DIR")).join("../../crates/list/out/list");
     let mut program = Command::new(&path)
         .stdin(Stdio::piped())
         .stdout(Stdio::piped())
         .stderr(Stdio::piped())
         .spawn()
-        .unwrap_or_else(|e| panic!("{}: {e}: run `rt check list` first", path.display()));
+        .unwrap_or_else(|e| panic!("{}: {e}: run `rt run` in crates/list first", path.display()));
     let mut input = program.stdin.take().expect("standard input is a pipe");
     let (first, second) = s.split_at(piece.min(s.len()));
     for bytes in [first, second] {
