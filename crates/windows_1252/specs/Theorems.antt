@@ -128,7 +128,8 @@ from_number s out =
     writing_holds P (utf16_refusal s) (from_utf16 s) out (go P (whole_test s) refl refl) refl
   where
     go : (P : ℕ → Type 0) (t : Bool) → P 0 → P 18 → P (cond t 0 18)
-    go P t p q = elim t [ true ↦ p | false ↦ q ]
+    go P true p q = p
+    go P false p q = q
 
 pub to_refused : (bytes out : List ℕ) → ((writing_utf16 bytes out).answer.refusal ≡ 0 → ⊥)
     → writing_utf16 bytes out ≡ refused (writing_utf16 bytes out).answer.refusal out
