@@ -1,0 +1,6 @@
+-- The digits before the last are those of a tenth of the number. Assumes nothing.
+use Rattle.decimal.proofs.+put_decimal.Given as goal
+
+-- the number falls
+abbrev pub decreases-put_decimal : goal.decreases-put_decimal
+decreases-put_decimal l = l.n
