@@ -38,18 +38,18 @@ module _ (d : Direction) (w : ℕ) (s : List ℕ) (types : ℕ) where
     next : step_at (opposite d) w s e ≡ Found last
     want : wanted types last ≡ true
 
-  last_of : {p : ℕ} {a : Record} {bs : List Record} {e : ℕ} → Next d w s types p a → Finds d w s types (edge d a) bs e → Last (a ∷ bs) e
-  last_of {a = a} n stop =
+  last_of : {p q : ℕ} {a : Record} {bs : List Record} {e : ℕ} → Next d w s types p a → q ≡ edge d a → Finds d w s types q bs e → Last (a ∷ bs) e
+  last_of {a = a} n at stop =
       let x = found_lies d w s n.at a n.found in
       record {
         last = a;
         before = [];
         bytes = append-nil (bytes_in a);
-        next = ap (step_at (opposite d) w s) x.ends ∙ x.again;
+        next = ap (step_at (opposite d) w s) (at ∙ x.ends) ∙ x.again;
         want = n.want;
       }
-  last_of {a = a} n (step {a = b} {bs = bs} m r) =
-      let y = last_of m r in
+  last_of {p = p} {a = a} n at (step {p = p'} {e = e} {a = b} {bs = bs} m r) =
+      let y = last_of {p = p'} m refl r in
       record {
         last = y.last;
         before = bytes_in a ++ y.before;
@@ -62,7 +62,7 @@ module _ (d : Direction) (w : ℕ) (s : List ℕ) (types : ℕ) where
   some_last : (size : ℕ) {p e : ℕ} {bs : List Record} → Finds d w s types p bs e → ((b : Record) → Next d w s types e b → size < total bs + b.length)
       → NextFits d w s types p size → Last bs e
   some_last size stop most x = absurd (omega (arith, most x.next x.found, x.fits))
-  some_last size (step n r) most x = last_of n r
+  some_last size (step n r) most x = last_of n refl r
 
   -- and it is the first
   some_first : (size : ℕ) {p e : ℕ} {bs : List Record} → Finds d w s types p bs e → ((b : Record) → Next d w s types e b → size < total bs + b.length)
