@@ -1,7 +1,7 @@
 -- The samples of the memory card that are proved (Rules 13.16 to 13.20): one table, one claim. What is said
 -- is worked out by hand: the sums of each block stand beside it.
 -- Assumes nothing.
-use Rattle.std.specs.Prelude.{◌≡◌, refl, true, List, [], ◌∷◌, ◌++◌, map, ℕ, length, drop, replicate}
+use Rattle.std.specs.Prelude.{◌≡◌, refl, true, List, [], ◌∷◌, ◌++◌, map, ℕ, replicate}
 use Rattle.format.specs.Bytes.{zeros}
 use Rattle.format.proofs.Laws.Tests.{same, sames, sames_lists}
 use Rattle.card.specs.Check.{sum_below, low_sum, high_sum}
