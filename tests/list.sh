@@ -1,5 +1,6 @@
 #!/usr/bin/env bash
-# Runs the built listing program on inputs at its limits and holds what it writes to the byte.
+# Runs the listing program, as `rt run` in crates/list has built it, on inputs at its limits and holds what it writes to
+# the byte.
 set -euo pipefail
 cd "$(dirname "$0")/.."
 program=crates/list/out/list

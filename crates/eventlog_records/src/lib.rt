@@ -1,5 +1,5 @@
-// The calls for programs in C and Rust on one record: refusals and strings (section 4). A slice crosses as its pointer
-// and its length, a struct by value. Each function answers what the call below it answers.
+// The calls for programs in C and Rust on one record: refusals and strings (section 4). Each function answers what the
+// call below it answers.
 
 #![tactic(auto)]
 

@@ -1,4 +1,5 @@
-// The calls on one record, for C: refusals and strings (section 4). Each export is the library's function of this name.
+// The calls on one record, for C: refusals and strings (section 4). A slice crosses as its pointer and its length, a
+// struct by value. Each export is the library's function of this name.
 
 #![tactic(auto)]
 

@@ -1,4 +1,5 @@
-// The calls that serve a log, for C: the read call, its handle, and the set of types in it (section 8). Each export is the library's function of this name.
+// The calls that serve a log, for C: the read call, its handle, and the set of types in it (section 8). Each export is
+// the library's function of this name.
 
 #![tactic(auto)]
 
