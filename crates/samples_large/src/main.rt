@@ -216,9 +216,14 @@ fn answers(rt: &impl Print, log: &[u8]) -> io::Result<()> {
     read(rt, b"backwards", log, 9, &mut [0u8; 262140])
 }
 
+// Room for two records of the largest Length.
+fn empty() -> [u8; 524280] {
+    [0u8; 524280]
+}
+
 fn main(rt: HostRuntime) -> io::Result<()> {
     let strings = strings();
-    let mut log = [0u8; 524280];
+    let mut log = empty();
     names(&rt, &name_head())?;
     last_strings(&rt, &string_head())?;
     write(
