@@ -485,8 +485,9 @@ step back at 285|285
     )
 }
 
-// What is refused of a record's fields and parts, one after another.
-fn refused_parts(rt: &impl Print) -> io::Result<()> {
+pub fn reading(rt: &impl Print) -> io::Result<()> {
+    topic(rt, b"steps, from the front and from the rear")?;
+    steps(rt)?;
     topic(rt, b"refusals, from the front and from the rear")?;
     ask(
         rt,
@@ -500,11 +501,7 @@ no bytes|0
     lengths(rt)?;
     numbers(rt)?;
     names_and_sids(rt)?;
-    strings_and_data(rt)
-}
-
-// What is refused of a record as a whole, and at a limit.
-fn refused_wholes(rt: &impl Print) -> io::Result<()> {
+    strings_and_data(rt)?;
     sizes(rt)?;
     gaps(rt)?;
     many_strings(rt)?;
@@ -516,20 +513,9 @@ fn refused_wholes(rt: &impl Print) -> io::Result<()> {
 the record of MS-EVEN 4.2
 the same with a well-formed SID|106|\x01\x01
 ",
-    )
-}
-
-fn parts_and_strings(rt: &impl Print) -> io::Result<()> {
+    )?;
     topic(rt, b"parts and strings")?;
     shown_parts(rt)?;
     strings_by_number(rt)?;
     strings_in_turn(rt)
-}
-
-pub fn reading(rt: &impl Print) -> io::Result<()> {
-    topic(rt, b"steps, from the front and from the rear")?;
-    steps(rt)?;
-    refused_parts(rt)?;
-    refused_wholes(rt)?;
-    parts_and_strings(rt)
 }

@@ -170,9 +170,14 @@ pub fn read_empty(rt: &impl Print, q: &[u8]) -> io::Result<()> {
     read_into(rt, q, &mut [0u8; 0])
 }
 
-// Into a buffer that is longer than the largest size.
+// A buffer that is longer than the largest size.
+fn large() -> [u8; 524289] {
+    [0xaau8; 524289]
+}
+
+// Into such a buffer.
 pub fn read_large(rt: &impl Print, q: &[u8]) -> io::Result<()> {
-    read_into(rt, q, &mut [0xaau8; 524289])
+    read_into(rt, q, &mut large())
 }
 
 fn empty_log(rt: &impl Print) -> io::Result<()> {
