@@ -1,4 +1,5 @@
-// Decimal numbers as text in a lent buffer. Any number, any place and any buffer may be given.
+// Decimal numbers as text in a lent buffer. Any number, any place and any buffer may be given. Digits are put by hand and not by
+// `Display`, here and in the crates above: promised is that as many bytes are put as fit into the buffer, and there is no heap.
 
 #![tactic(auto)]
 
@@ -12,13 +13,10 @@ use stores::put;
 pub fn count_digits(n: u64) -> usize
     ensures { (result ≡ length (decimal n)) × (result ≤ 20) }
 {
-    let mut k = 1;
-    let mut m = n;
-    while 10 <= m {
-        m = m / 10;
-        k += 1;
+    match n.checked_ilog(10) {
+        Some(k) => k as usize + 1,
+        None => 1,
     }
-    k
 }
 
 // The digits of a number from a place on, as many as fit. It answers the place after them.

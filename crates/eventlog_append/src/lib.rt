@@ -1,4 +1,5 @@
 // Appending one record to a log (section 7), for programs in C and Rust: what the call below it answers.
+// The numbers and the parts are arguments one by one, the log with how much of it is used: so C hands them over.
 
 #![tactic(auto)]
 
@@ -8,6 +9,7 @@ ghost use Rattle.format.specs.Appending.{log_outcome, with_number, appending};
 ghost use Rattle.edition.specs.Editions.{unit_of};
 
 use edition::edition_of;
+use event::Event;
 use format::{Appended, Unnumbered};
 
 pub fn eventlog_append(
@@ -24,5 +26,13 @@ pub fn eventlog_append(
     ensures { log_outcome result log.new ≡ appending (unit_of edition) (λ k. given (with_number k f) source.now computer.now sid.now strings.now bytes.now) log.old used }
 {
     let e = edition_of(edition);
-    append::append(e, log, used, f, source, computer, sid, strings, bytes)
+    let event = Event {
+        fields: f,
+        source_name: source,
+        computer_name: computer,
+        sid,
+        strings,
+        event_data: bytes,
+    };
+    append::append(e, log, used, &event)
 }

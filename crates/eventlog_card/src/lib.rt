@@ -35,5 +35,8 @@ pub fn eventlog_card_read(image: &[u8], out: &mut [u8]) -> Written
 pub fn eventlog_card_judge(image: &[u8], place: usize) -> u32
     ensures { result ≡ block_refusal image.now place }
 {
-    block::judge(image, place)
+    match block::judge(image, place) {
+        Ok(()) => 0,
+        Err(refusal) => u32::from(refusal),
+    }
 }

@@ -12,8 +12,8 @@ ghost use Rattle.eventlog_serving.specs.Handles.{handle_of, read_handle, fresh_r
 use edition::edition_of;
 use serve::{Handle, Place};
 
-// A read handle: 0 for a fresh one, else a boundary; the set of types that are wanted; and the boundary's byte
-// position.
+// A read handle, as it crosses to C, which has no enums with values: 0 for a fresh one, else a boundary; the set of types that
+// are wanted; and the boundary's byte position.
 #[repr(C)]
 #[derive(Clone, Copy)]
 pub struct ReadHandle {
@@ -22,7 +22,7 @@ pub struct ReadHandle {
     pub boundary: usize,
 }
 
-// What a read answers.
+// What a read answers, as it crosses to C: a refusal has the handle that was given, and what the next record needs.
 #[repr(C)]
 #[derive(Clone, Copy)]
 pub struct ReadAnswer {
@@ -32,29 +32,42 @@ pub struct ReadAnswer {
     pub handle: ReadHandle,
 }
 
-fn place_of(h: ReadHandle) -> Place
-    ensures { result ≡ (handle_of h).place }
-{
-    if h.kind == 0 {
-        return Place::Fresh;
+// Rule 8.25: a handle that was given: every kind but 0 is a boundary.
+impl From<ReadHandle> for Handle {
+    ghost from_gives = { λ h x. x ≡ handle_of h };
+
+    fn from(h: ReadHandle) -> Handle {
+        if h.kind == 0 {
+            return Handle {
+                place: Place::Fresh,
+                types: h.types,
+            };
+        }
+        Handle {
+            place: Place::Boundary(h.boundary),
+            types: h.types,
+        }
     }
-    Place::Boundary(h.boundary)
 }
 
-fn read_handle(place: Place, types: u32) -> ReadHandle
-    ensures { result ≡ read_handle place types }
-{
-    match place {
-        Place::Fresh => ReadHandle {
-            kind: 0,
-            types: types,
-            boundary: 0,
-        },
-        Place::Boundary(b) => ReadHandle {
-            kind: 1,
-            types: types,
-            boundary: b,
-        },
+// Rule 8.25: a handle that is answered.
+impl From<Handle> for ReadHandle {
+    ghost from_gives = { λ x h. h ≡ read_handle x.place x.types };
+
+    fn from(x: Handle) -> ReadHandle {
+        let place = x.place;
+        match place {
+            Place::Fresh => ReadHandle {
+                kind: 0,
+                types: x.types,
+                boundary: 0,
+            },
+            Place::Boundary(b) => ReadHandle {
+                kind: 1,
+                types: x.types,
+                boundary: b,
+            },
+        }
     }
 }
 
@@ -62,7 +75,7 @@ fn read_handle(place: Place, types: u32) -> ReadHandle
 pub fn eventlog_fresh(types: u32) -> ReadHandle
     ensures { result ≡ fresh_read types }
 {
-    read_handle(Place::Fresh, types)
+    ReadHandle::from(Handle::fresh(types))
 }
 
 // How many types a set holds.
@@ -84,20 +97,15 @@ pub fn eventlog_read(
 ) -> ReadAnswer
     ensures { read_outcome result out.new ≡ answered h (serving (unit_of edition) log.now (handle_of h) flags number size out.old) }
 {
-    let handle = Handle {
-        place: place_of(h),
-        types: h.types,
-    };
+    let handle = Handle::from(h);
     let e = edition_of(edition);
     let a = handle.read(e, log, flags, number, size, out);
     if a.status == 0 {
-        let next = a.handle;
-        let place = next.place;
         return ReadAnswer {
             status: 0,
             read: a.read,
             needed: a.needed,
-            handle: read_handle(place, next.types),
+            handle: ReadHandle::from(a.handle),
         };
     }
     ReadAnswer {

@@ -1,4 +1,5 @@
 // Writing one record (section 6), for programs in C and Rust: what the call below it answers.
+// The numbers and the parts are arguments one by one: so C hands them over.
 
 #![tactic(auto)]
 
@@ -7,6 +8,7 @@ ghost use Rattle.format.specs.Writing.{given, outcome, writing};
 ghost use Rattle.edition.specs.Editions.{unit_of};
 
 use edition::edition_of;
+use event::Event;
 use format::{Fields, Written};
 
 // Over the start of the output.
@@ -23,5 +25,13 @@ pub fn eventlog_write(
     ensures { outcome result out.new ≡ writing (unit_of edition) (given f source.now computer.now sid.now strings.now bytes.now) out.old }
 {
     let e = edition_of(edition);
-    writer::write(e, f, source, computer, sid, strings, bytes, out)
+    let event = Event {
+        fields: f,
+        source_name: source,
+        computer_name: computer,
+        sid,
+        strings,
+        event_data: bytes,
+    };
+    writer::write(e, &event, out)
 }

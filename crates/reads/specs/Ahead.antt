@@ -1,14 +1,13 @@
 -- What a read answers in any log, with a cut or none (section 8), said by what the steps answer from the place
 -- on where it starts. w is the width of a unit of text, types the set of the types wanted.
 -- Assumes nothing.
-use Rattle.std.specs.Prelude.{◌≡◌, true, false, ◌⊎◌, List, [], ◌∷◌, ◌++◌, ℕ, zero, ◌+◌, ◌≤◌, ◌<◌, length, take, drop}
+use Rattle.std.specs.Prelude.{◌≡◌, true, false, ◌⊎◌, List, [], ◌∷◌, ◌++◌, ℕ, zero, ◌+◌, ◌≤◌, ◌<◌, length, take, drop, Ok, Err}
 use Rattle.format.specs.declared.Refusal.{Refusal}
 use Rattle.format.specs.declared.Record.{Record}
-use Rattle.format.specs.declared.Step.TheVariants.{Found, Refused}
 use Rattle.format.specs.declared.Direction.{Direction}
 use Rattle.format.specs.declared.Direction.TheVariants.{Forwards, Backwards}
 use Rattle.format.specs.Bytes.{All, part}
-use Rattle.format.specs.Judge.{ahead, past, step_at}
+use Rattle.format.specs.Judge.{ahead, past, step_at, refused_at}
 use Rattle.format.specs.Walk.{trace}
 use Rattle.delivery.specs.Delivering.{wanted, records_bytes, edge}
 use Rattle.seek.specs.Seeking.{place_of}
@@ -28,7 +27,7 @@ pub record Exactly (A B : Type 0) : Type 0 where
 -- Rule 8.15: from p up to e every step finds a record that is not wanted
 pub data Skips (d : Direction) (w : ℕ) (s : List ℕ) (types : ℕ) : ℕ → ℕ → Type 0 where
   here : {p : ℕ} → Skips d w s types p p
-  skip : {p e : ℕ} {a : Record} → step_at d w s p ≡ Found a → wanted types a ≡ false → Skips d w s types (past d p a.length) e → Skips d w s types p e
+  skip : {p e : ℕ} {a : Record} → step_at d w s p ≡ Ok a → wanted types a ≡ false → Skips d w s types (past d p a.length) e → Skips d w s types p e
 
 -- Rule 8.7, row e: no wanted record is left
 pub record NoneLeft (d : Direction) (w : ℕ) (s : List ℕ) (types p : ℕ) : Type 0 where
@@ -43,13 +42,13 @@ pub record NextRefuses (d : Direction) (w : ℕ) (s : List ℕ) (types p : ℕ) 
   pub left : zero < length (ahead d s at)
   pub refusal : Refusal
   pub told : ℕ
-  pub refused : step_at d w s at ≡ Refused refusal told
+  pub refused : step_at d w s at ≡ Err (refused_at refusal told)
 
 -- Rule 8.28: this is the next wanted record
 pub record Next (d : Direction) (w : ℕ) (s : List ℕ) (types p : ℕ) (a : Record) : Type 0 where
   pub at : ℕ
   pub skipped : Skips d w s types p at
-  pub found : step_at d w s at ≡ Found a
+  pub found : step_at d w s at ≡ Ok a
   pub want : wanted types a ≡ true
 
 -- row g: it is longer than a size
@@ -161,7 +160,7 @@ pub record Turns (d : Direction) (w : ℕ) (s : List ℕ) (types : ℕ) (x : Ser
   pub boundary : ℕ
   pub bytes : take x.answer.read x.output ≡ before ++ part last.start last.length s
   pub handle : x.answer.handle ≡ record { place = Boundary boundary; types = types }
-  pub next : step_at (opposite d) w s boundary ≡ Found last
+  pub next : step_at (opposite d) w s boundary ≡ Ok last
   pub want : wanted types last ≡ true
   pub again : (q : Read) → q.flags ≡ sequential_flags (opposite d) → RightSize q → last.length ≤ q.size
       → ((call w s x.answer.handle q).answer.status ≡ 0) × (take last.length (call w s x.answer.handle q).output ≡ part last.start last.length s)

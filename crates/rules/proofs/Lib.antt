@@ -1,4 +1,4 @@
 mod RuleOrder
 mod NameSearch
-mod Names
+mod BothNames
 mod PartTests

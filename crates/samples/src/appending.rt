@@ -1,64 +1,39 @@
 // Appending: the refusal, its field, how much of the log is used then, and the log.
 
-use crate::records::{part, s, unnumbered};
-use crate::show::{bytes, line2, line3, topic};
-use crate::table::{field, find, number, patch, what};
-use format::{Appended, Edition, Step};
+use crate::records::s;
+use crate::show::{Hex, line, topic};
+use crate::table::{Question, ask};
+use format::{Direction, Edition};
 use std::io;
 use stores::put;
 
 // The fields: how much of the log is used; the numbers, source, computer, SID, strings and data; the place where the
 // last record ends then, if it is shown; and what is put over the log before.
-fn append_to(q: &[u8], log: &mut [u8]) -> Appended {
-    append::append(
-        Edition::Unicode,
-        log,
-        number(q, 1),
-        unnumbered(field(q, 2)),
-        field(q, 3),
-        field(q, 4),
-        field(q, 5),
-        field(q, 6),
-        field(q, 7),
-    )
-}
-
-fn append_one(rt: &impl Print, q: &[u8], log: &mut [u8]) -> io::Result<()> {
-    patch(log, q, 9);
-    let a = append_to(q, log);
-    let k = a.refusal;
-    line3(rt, what(q), k.number as u64, k.field as u64, a.used as u64)?;
-    if number(q, 8) > 0 {
-        last(rt, log, number(q, 8))?;
+fn append_one(rt: &impl Print, q: Question<'_>, log: &mut [u8]) -> io::Result<()> {
+    q.patch(log, 9);
+    let a = append::append(Edition::Unicode, log, q.number(1), &q.unnumbered(2));
+    line(rt, q.what(), a)?;
+    match q.number(8) {
+        0 => Ok(()),
+        end => last(rt, log, end),
     }
-    Ok(())
-}
-
-// Each line of a table, to one log.
-fn append_all(rt: &impl Print, table: &[u8], log: &mut [u8]) -> io::Result<()> {
-    let mut at = 0usize;
-    while at < table.len() {
-        let end = find(table, at, b'\n');
-        if end >= table.len() {
-            return Ok(());
-        }
-        append_one(rt, part(table, at, end), log)?;
-        at = end + 1;
-    }
-    Ok(())
 }
 
 // The number and the start of the record that ends at a place.
 fn last(rt: &impl Print, log: &[u8], end: usize) -> io::Result<()> {
-    match record::step_back(Edition::Unicode, log, end) {
-        Step::Found(a) => line2(
+    match record::step(Edition::Unicode, Direction::Backwards, log, end) {
+        Ok(a) => line(
             rt,
             b"  the last record's number and start",
-            a.fields.record_number as u64,
-            a.start as u64,
+            (a.fields.record_number, a.start),
         ),
-        Step::Refused { refusal: k, at: p } => line2(rt, b"  refused", k.number as u64, p as u64),
+        Err(x) => line(rt, b"  refused", (x.refusal.number, x.at)),
     }
+}
+
+// Each line of a table, to one log.
+fn append_all(rt: &impl Print, table: &[u8], log: &mut [u8]) -> io::Result<()> {
+    ask(rt, |rt, q| append_one(rt, q, log), table)
 }
 
 // U, an event with no parts, and U again.
@@ -74,7 +49,7 @@ U after both|180|,4,3,32768,1001,1002,1003,7|P\0a\0n\0s\0|K\0\
 ",
         log,
     )?;
-    bytes(rt, b"  the log", log)
+    line(rt, b"  the log", Hex(log))
 }
 
 // To a log whose first record is S.
@@ -98,8 +73,8 @@ a type of 3 in an empty log|0|,3
 ",
         log,
     )?;
-    append_one(rt, b"into a buffer of no bytes|0", &mut [0u8; 0])?;
-    bytes(rt, b"  the log", log)
+    append_one(rt, Question(b"into a buffer of no bytes|0"), &mut [])?;
+    line(rt, b"  the log", Hex(log))
 }
 
 // 14 has the field of the last record that failed.
@@ -112,7 +87,7 @@ behind a computer name that has no end|64||||||||24|\0|58|\x01
 ",
         log,
     )?;
-    bytes(rt, b"  the log", log)
+    line(rt, b"  the log", Hex(log))
 }
 
 pub fn appending(rt: &impl Print) -> io::Result<()> {

@@ -1,10 +1,8 @@
 // The calls for C, asked where their answers differ from each other's.
 
-use crate::reading::show_record;
-use crate::records::{log, log_with, numbers, part, unnumbered};
-use crate::show::{bytes, line, line2, line3, line4, output, output_start, topic};
-use crate::table::{field, number, number32, what};
-use crate::{Kind, ask};
+use crate::records::{log, log_with};
+use crate::show::{Hex, line, output, output_start, show_record, topic};
+use crate::table::{Question, ask, part};
 use eventlog_append::eventlog_append;
 use eventlog_listing::eventlog_listing;
 use eventlog_records::{
@@ -22,28 +20,26 @@ use stepped::Stepped;
 use stores::put;
 
 fn stepped(rt: &impl Print, what: &[u8], x: Stepped) -> io::Result<()> {
-    let k = x.refusal;
-    line3(rt, what, k.number as u64, k.field as u64, x.at as u64)?;
+    line(rt, what, (x.refusal, x.at))?;
     show_record(rt, b"  found", x.found)
 }
 
-pub fn step(rt: &impl Print, q: &[u8]) -> io::Result<()> {
-    stepped(rt, what(q), eventlog_step(0, &log(), number(q, 1)))
+fn step(rt: &impl Print, q: Question<'_>) -> io::Result<()> {
+    stepped(rt, q.what(), eventlog_step(0, &log(), q.number(1)))
 }
 
-pub fn step_back(rt: &impl Print, q: &[u8]) -> io::Result<()> {
-    stepped(rt, what(q), eventlog_step_back(0, &log(), number(q, 1)))
+fn step_back(rt: &impl Print, q: Question<'_>) -> io::Result<()> {
+    stepped(rt, q.what(), eventlog_step_back(0, &log(), q.number(1)))
 }
 
-pub fn refusal(rt: &impl Print, q: &[u8]) -> io::Result<()> {
-    let k = eventlog_refusal(0, &log(), number(q, 1));
-    line2(rt, what(q), k.number as u64, k.field as u64)
+fn refusal(rt: &impl Print, q: Question<'_>) -> io::Result<()> {
+    line(rt, q.what(), eventlog_refusal(0, &log(), q.number(1)))
 }
 
 fn steps(rt: &impl Print) -> io::Result<()> {
     ask(
         rt,
-        Kind::CallStep,
+        step,
         b"\
 step at 168|168
 step at 65|65
@@ -52,7 +48,7 @@ step at 60|60
     )?;
     ask(
         rt,
-        Kind::CallStepBack,
+        step_back,
         b"\
 step back at 168|168
 step back at 65|65
@@ -60,7 +56,7 @@ step back at 65|65
     )?;
     ask(
         rt,
-        Kind::CallRefusal,
+        refusal,
         b"\
 refusal at 64|64
 refusal at 65|65
@@ -70,41 +66,32 @@ refusal at 284|284
 }
 
 // A record's place and the string's number.
-pub fn string(rt: &impl Print, q: &[u8]) -> io::Result<()> {
-    show_string(rt, what(q), &log(), number(q, 1), number32(q, 2))
-}
-
-fn show_string(rt: &impl Print, what: &[u8], log: &[u8; 284], at: usize, k: u32) -> io::Result<()> {
-    let p = eventlog_string(0, log, at, k);
-    let x = eventlog_string_refusal(0, log, at, k);
-    line4(
+fn string(rt: &impl Print, q: Question<'_>) -> io::Result<()> {
+    let log = log();
+    line(
         rt,
-        what,
-        x.number as u64,
-        x.field as u64,
-        p.at as u64,
-        p.len as u64,
+        q.what(),
+        (
+            eventlog_string_refusal(0, &log, q.number(1), q.number(2)),
+            eventlog_string(0, &log, q.number(1), q.number(2)),
+        ),
     )
 }
 
 // A place in the run from 256 to 262.
-pub fn next_string(rt: &impl Print, q: &[u8]) -> io::Result<()> {
+fn next_string(rt: &impl Print, q: Question<'_>) -> io::Result<()> {
     let run = Part { at: 256, len: 6 };
-    let x = eventlog_next_string(0, &log(), run, number(q, 1));
-    line4(
+    line(
         rt,
-        what(q),
-        x.refusal as u64,
-        x.string.at as u64,
-        x.string.len as u64,
-        x.next as u64,
+        q.what(),
+        eventlog_next_string(0, &log(), run, q.number(1)),
     )
 }
 
 fn strings(rt: &impl Print) -> io::Result<()> {
     ask(
         rt,
-        Kind::CallString,
+        string,
         b"\
 string 2 of U|168|2
 string 3 of U|168|3
@@ -115,7 +102,7 @@ string 0 at 1|1|0
     )?;
     ask(
         rt,
-        Kind::CallNext,
+        next_string,
         b"\
 next string at 260|260
 next string at 262|262
@@ -124,111 +111,116 @@ next string at 262|262
 }
 
 // The first bytes of the log, with bytes put over it.
-pub fn walks(rt: &impl Print, q: &[u8]) -> io::Result<()> {
+fn walks(rt: &impl Print, q: Question<'_>) -> io::Result<()> {
     let log = log_with(q, 2);
-    show_walks(rt, what(q), part(&log, 0, number(q, 1)))
+    show_walks(rt, q.what(), part(&log, 0, q.number(1)))
 }
 
 fn show_walks(rt: &impl Print, what: &[u8], s: &[u8]) -> io::Result<()> {
-    let w = eventlog_walk(0, s);
-    let b = eventlog_walk_back(0, s);
-    line(
-        rt,
-        what,
-        &[
-            w.count as u64,
-            w.refusal.number as u64,
-            w.refusal.field as u64,
-            w.at as u64,
-            b.count as u64,
-            b.refusal.number as u64,
-            b.refusal.field as u64,
-            b.at as u64,
-        ],
-    )
+    line(rt, what, (eventlog_walk(0, s), eventlog_walk_back(0, s)))
 }
 
 // An event: its numbers, source, computer, SID, strings and data.
-fn write(rt: &impl Print, q: &[u8], out: &mut [u8]) -> io::Result<()> {
+fn write(rt: &impl Print, q: Question<'_>, out: &mut [u8]) -> io::Result<()> {
+    let x = q.event(1);
     let w = eventlog_write(
         0,
-        numbers(field(q, 1)),
-        field(q, 2),
-        field(q, 3),
-        field(q, 4),
-        field(q, 5),
-        field(q, 6),
+        x.fields,
+        x.source_name,
+        x.computer_name,
+        x.sid,
+        x.strings,
+        x.event_data,
         out,
     );
-    line2(rt, what(q), w.refusal as u64, w.length as u64)?;
+    line(rt, q.what(), w)?;
     output(rt, out)
 }
 
-fn append(rt: &impl Print, q: &[u8], log: &mut [u8]) -> io::Result<()> {
+fn append(rt: &impl Print, q: Question<'_>, log: &mut [u8]) -> io::Result<()> {
+    let x = q.unnumbered(1);
     let a = eventlog_append(
         0,
         log,
         88,
-        unnumbered(field(q, 1)),
-        field(q, 2),
-        field(q, 3),
-        field(q, 4),
-        field(q, 5),
-        field(q, 6),
+        x.fields,
+        x.source_name,
+        x.computer_name,
+        x.sid,
+        x.strings,
+        x.event_data,
     );
-    let k = a.refusal;
-    line3(rt, what(q), k.number as u64, k.field as u64, a.used as u64)?;
-    bytes(rt, b"  the log", log)
+    line(rt, q.what(), a)?;
+    line(rt, b"  the log", Hex(log))
 }
 
 // The source name "P", the computer name "KK", a SID, one string, one data byte; then with U's numbers behind it.
 fn writes(rt: &impl Print) -> io::Result<()> {
-    let mut out = [0xaau8; 100];
+    let mut out = [0xaa; 100];
     write(
         rt,
-        b"write|5,0,1|P\0|K\0K\0|\x01\0\0\0\0\0\0\x05|A\0\0\0|\xd1",
+        Question(b"write|5,0,1|P\0|K\0K\0|\x01\0\0\0\0\0\0\x05|A\0\0\0|\xd1"),
         &mut out,
     )?;
-    let mut log = [0xaau8; 300];
+    let mut log = [0xaa; 300];
     put(&mut log, 0, &out);
     append(
         rt,
-        b"append|,4,3,32768,1001,1002,1003,7|P\0|K\0K\0|\x01\0\0\0\0\0\0\x05|A\0\0\0\0\0\0\0|\xd1",
+        Question(
+            b"append|,4,3,32768,1001,1002,1003,7|P\0|K\0K\0|\x01\0\0\0\0\0\0\x05|A\0\0\0\0\0\0\0|\xd1",
+        ),
         &mut log,
     )
 }
 
 // The fields: flags, number and size.
-fn read(rt: &impl Print, h: ReadHandle, q: &[u8]) -> io::Result<ReadHandle> {
-    let mut out = [0xaau8; 300];
+fn read(rt: &impl Print, h: ReadHandle, q: Question<'_>) -> io::Result<ReadHandle> {
+    let mut out = [0xaa; 300];
     let a = eventlog_read(
         0,
         h,
         &log(),
-        number32(q, 1),
-        number32(q, 2),
-        number(q, 3),
+        q.number(1),
+        q.number(2),
+        q.number(3),
         &mut out,
     );
-    line3(rt, what(q), a.status as u64, a.read as u64, a.needed as u64)?;
+    line(rt, q.what(), (a.status, a.read, a.needed))?;
     show_handle(rt, b"  the handle", a.handle)?;
     output_start(rt, &out)?;
     Ok(a.handle)
 }
 
 fn show_handle(rt: &impl Print, what: &[u8], h: ReadHandle) -> io::Result<()> {
-    line2(rt, what, h.kind as u64, h.boundary as u64)
+    line(rt, what, (h.kind, h.boundary))
+}
+
+// Reads with one handle after another, from this one on.
+fn sequence(rt: &impl Print, mut h: ReadHandle, table: &[u8]) -> io::Result<()> {
+    ask(
+        rt,
+        |rt, q| {
+            h = read(rt, h, q)?;
+            Ok(())
+        },
+        table,
+    )
 }
 
 fn reads(rt: &impl Print) -> io::Result<()> {
     let h = eventlog_fresh(63);
     show_handle(rt, b"fresh", h)?;
-    let h = read(rt, h, b"backwards, 116|9|0|116")?;
-    let h = read(rt, h, b"forwards, 115|5|0|115")?;
-    let h = read(rt, h, b"forwards, 116|5|0|116")?;
-    read(rt, h, b"forwards again|5|0|116")?;
-    read(rt, eventlog_fresh(63), b"seek 8|6|8|104")?;
-    Ok(())
+    sequence(
+        rt,
+        h,
+        b"\
+backwards, 116|9|0|116
+forwards, 115|5|0|115
+forwards, 116|5|0|116
+forwards again|5|0|116
+",
+    )?;
+    sequence(rt, h, b"seek 8|6|8|104\n")
 }
 
 fn odd_handles(rt: &impl Print) -> io::Result<()> {
@@ -237,30 +229,26 @@ fn odd_handles(rt: &impl Print) -> io::Result<()> {
         types: 63,
         boundary: 284,
     };
-    read(rt, odd, b"a handle of kind 7, forwards|5|0|300")?;
+    sequence(rt, odd, b"a handle of kind 7, forwards|5|0|300\n")?;
     let odd = ReadHandle {
         kind: 0,
         types: 63,
         boundary: 99,
     };
-    read(rt, odd, b"a handle of kind 0 with a boundary, size 0|5|0|0")?;
-    Ok(())
+    sequence(
+        rt,
+        odd,
+        b"a handle of kind 0 with a boundary, size 0|5|0|0\n",
+    )
 }
 
 // Into so much room.
-pub fn listing(rt: &impl Print, q: &[u8]) -> io::Result<()> {
-    let mut out = [0xaau8; 40];
-    let room = number(q, 1);
-    if room <= 40 {
-        list_into(rt, what(q), &log(), &mut out[..room])?;
+fn listing(rt: &impl Print, q: Question<'_>) -> io::Result<()> {
+    if let Some(out) = [0xaa; 40].get_mut(..q.number(1)) {
+        line(rt, q.what(), eventlog_listing(0, &log(), out))?;
+        output(rt, out)?;
     }
     Ok(())
-}
-
-fn list_into(rt: &impl Print, what: &[u8], log: &[u8; 284], out: &mut [u8]) -> io::Result<()> {
-    let w = eventlog_listing(0, log, out);
-    line2(rt, what, w.refusal as u64, w.length as u64)?;
-    output(rt, out)
 }
 
 pub fn interface(rt: &impl Print) -> io::Result<()> {
@@ -269,7 +257,7 @@ pub fn interface(rt: &impl Print) -> io::Result<()> {
     strings(rt)?;
     ask(
         rt,
-        Kind::CallWalks,
+        walks,
         b"\
 walks|284
 walks without the last byte|283
@@ -281,7 +269,7 @@ walks of the log with type 3 in T|284|88|\x03
     odd_handles(rt)?;
     ask(
         rt,
-        Kind::CallListing,
+        listing,
         b"\
 listing into 35 bytes|35
 listing into 40 bytes|40

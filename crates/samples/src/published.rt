@@ -1,14 +1,12 @@
 // A published record: the example of MS-EVEN 4.2.
 
-use crate::reading::changed;
-use crate::table::patch;
-use std::io;
+use crate::table::Question;
 
 // Its SID is printed in part only: with zeros there it is no SID, and with a well-formed one the parts end four
 // bytes before Length2.
-fn lay_out(r: &mut [u8]) {
-    patch(
-        r,
+pub fn published() -> [u8; 168] {
+    let mut r = [0u8; 168];
+    let q = Question(
         b"|0|\xa8\0\0\0LfLe\0\x01\0\0\x01\xbb\xb3\x4c\x19\xbb\xb3\x4c\x17\0\0\0\
         |24|\x04\0\x02\0\x01\0\0\0\
         |36|\x76\0\0\0\x0c\0\0\0\x6a\0\0\0\x10\0\0\0\x90\0\0\0\
@@ -18,13 +16,7 @@ fn lay_out(r: &mut [u8]) {
         |118|F\0i\0r\0s\0t\0\0\0S\0e\0c\0o\0n\0d\0\
         |144|\x76\x0b\x54\x86\x42\x3e\xbe\x9e\xff\x64\xb0\x96\x01\x53\x2b\x77\
         |164|\xa8",
-        1,
     );
-}
-
-// The record with bytes put over it.
-pub fn published(rt: &impl Print, q: &[u8]) -> io::Result<()> {
-    let mut r = [0u8; 168];
-    lay_out(&mut r);
-    changed(rt, q, &mut r)
+    q.patch(&mut r, 1);
+    r
 }

@@ -1,130 +1,59 @@
 // Reading: records at a place and from the rear, their refusals, their parts and their strings.
 
-use crate::records::{log, log_with, part, s, t};
-use crate::show::{bytes, line, line3, line4, topic};
-use crate::table::{field, number, number32, patch, what};
-use crate::{Kind, ask};
-use format::{Edition, Part, Record, Refusal, Step};
+use crate::published::published;
+use crate::records::{log, log_with, s, t};
+use crate::show::{Hex, line, show_record, show_step, topic};
+use crate::table::{Question, ask, part};
+use format::{Direction, Edition, NO_REFUSAL, Part, Refusal};
 use std::io;
 use stores::put;
 
-fn show_numbers(rt: &impl Print, a: Record) -> io::Result<()> {
-    let f = a.fields;
-    line(
-        rt,
-        b"  number, times, event, type, strings, category, flags",
-        &[
-            f.record_number as u64,
-            f.time_generated as u64,
-            f.time_written as u64,
-            f.event_id as u64,
-            f.event_type as u64,
-            f.num_strings as u64,
-            f.event_category as u64,
-            f.reserved_flags as u64,
-        ],
-    )
-}
-
-fn show_places(rt: &impl Print, a: Record) -> io::Result<()> {
-    line4(
-        rt,
-        b"  names",
-        a.source_name.at as u64,
-        a.source_name.len as u64,
-        a.computer_name.at as u64,
-        a.computer_name.len as u64,
-    )?;
-    line(
-        rt,
-        b"  SID, strings and data",
-        &[
-            a.sid.at as u64,
-            a.sid.len as u64,
-            a.strings.at as u64,
-            a.strings.len as u64,
-            a.event_data.at as u64,
-            a.event_data.len as u64,
-        ],
-    )
-}
-
-// Start and Length, the numbers, and where the parts lie.
-pub fn show_record(rt: &impl Print, what: &[u8], a: Record) -> io::Result<()> {
-    line3(rt, what, 0, a.start as u64, a.length as u64)?;
-    show_numbers(rt, a)?;
-    show_places(rt, a)
-}
-
-// The record at a place of the log.
-pub fn step(rt: &impl Print, q: &[u8]) -> io::Result<()> {
+// The record that is met at a place of the log.
+fn step(rt: &impl Print, d: Direction, q: Question<'_>) -> io::Result<()> {
     show_step(
         rt,
-        what(q),
-        record::step(Edition::Unicode, &log(), number(q, 1)),
+        q.what(),
+        record::step(Edition::Unicode, d, &log(), q.number(1)),
     )
-}
-
-// The record that ends at a place of the log.
-pub fn step_back(rt: &impl Print, q: &[u8]) -> io::Result<()> {
-    show_step(
-        rt,
-        what(q),
-        record::step_back(Edition::Unicode, &log(), number(q, 1)),
-    )
-}
-
-fn show_step(rt: &impl Print, what: &[u8], x: Step) -> io::Result<()> {
-    match x {
-        Step::Found(a) => show_record(rt, what, a),
-        Step::Refused { refusal: k, at: p } => {
-            line3(rt, what, k.number as u64, k.field as u64, p as u64)
-        }
-    }
 }
 
 // The refusal of the record that ends at a place.
 pub fn refusal_back(r: &[u8], end: usize) -> Refusal {
-    match record::step_back(Edition::Unicode, r, end) {
-        Step::Found(_) => Refusal {
-            number: 0,
-            field: 0,
-        },
-        Step::Refused { refusal: k, at: _ } => k,
+    match record::step(Edition::Unicode, Direction::Backwards, r, end) {
+        Ok(_) => NO_REFUSAL,
+        Err(x) => x.refusal,
     }
 }
 
 // The refusals of the record that fills the buffer, each with its field: of the step at its start, and of the
 // step from its end.
-pub fn refusals(rt: &impl Print, what: &[u8], r: &[u8]) -> io::Result<()> {
-    let f = record::refusal(Edition::Unicode, r, 0);
-    let b = refusal_back(r, r.len());
-    line4(
+fn refusals(rt: &impl Print, what: &[u8], r: &[u8]) -> io::Result<()> {
+    line(
         rt,
         what,
-        f.number as u64,
-        f.field as u64,
-        b.number as u64,
-        b.field as u64,
+        (
+            record::refusal(Edition::Unicode, r, 0),
+            refusal_back(r, r.len()),
+        ),
     )
 }
 
 // The first bytes of S.
-pub fn start_of_s(rt: &impl Print, q: &[u8]) -> io::Result<()> {
-    refusals(rt, what(q), part(&s(), 0, number(q, 1)))
+fn start_of_s(rt: &impl Print, q: Question<'_>) -> io::Result<()> {
+    refusals(rt, q.what(), part(&s(), 0, q.number(1)))
 }
 
 // A record with bytes put over it.
-pub fn changed(rt: &impl Print, q: &[u8], r: &mut [u8]) -> io::Result<()> {
-    patch(r, q, 1);
-    refusals(rt, what(q), r)
+fn changed(rt: &impl Print, q: Question<'_>, r: &mut [u8]) -> io::Result<()> {
+    q.patch(r, 1);
+    refusals(rt, q.what(), r)
 }
 
-pub fn changed_s(rt: &impl Print, q: &[u8]) -> io::Result<()> {
+fn changed_s(rt: &impl Print, q: Question<'_>) -> io::Result<()> {
     changed(rt, q, &mut s())
 }
 
-pub fn changed_t(rt: &impl Print, q: &[u8]) -> io::Result<()> {
+fn changed_t(rt: &impl Print, q: Question<'_>) -> io::Result<()> {
     changed(rt, q, &mut t())
 }
 
@@ -132,7 +61,7 @@ pub fn changed_t(rt: &impl Print, q: &[u8]) -> io::Result<()> {
 fn lengths(rt: &impl Print) -> io::Result<()> {
     ask(
         rt,
-        Kind::ChangedT,
+        changed_t,
         b"\
 T|0|
 T with Length 60|0|\x3c
@@ -153,7 +82,7 @@ T with Length2 108|100|\x6c
 fn numbers(rt: &impl Print) -> io::Result<()> {
     ask(
         rt,
-        Kind::ChangedT,
+        changed_t,
         b"\
 T with type 3|24|\x03
 T with type 16|24|\x10
@@ -177,7 +106,7 @@ T with flags 1 and 257 strings|26|\x01\x01\0\0\x01
 fn names_and_sids(rt: &impl Print) -> io::Result<()> {
     ask(
         rt,
-        Kind::ChangedS,
+        changed_s,
         b"\
 S with a computer name that has no end|57|\x01
 S with a source name that has no end|57|\x01|59|\x01
@@ -185,7 +114,7 @@ S with a source name that has no end|57|\x01|59|\x01
     )?;
     ask(
         rt,
-        Kind::ChangedT,
+        changed_t,
         b"\
 T with SID offset 77|44|\x4d
 T with SID offset 74|44|\x4a
@@ -203,7 +132,7 @@ T with no SID|40|\0
 fn strings_and_data(rt: &impl Print) -> io::Result<()> {
     ask(
         rt,
-        Kind::ChangedS,
+        changed_s,
         b"\
 S with string offset 5|36|\x05
 S with SID offset 5|44|\x05
@@ -212,7 +141,7 @@ S with data offset 5|52|\x05
     )?;
     ask(
         rt,
-        Kind::ChangedT,
+        changed_t,
         b"\
 T with string offset 90|36|\x5a
 T with 2 strings|26|\x02
@@ -230,22 +159,18 @@ T with 4294967295 bytes of data|48|\xff\xff\xff\xff
 }
 
 // S made 68 bytes long.
-fn longer_s(r: &mut [u8]) {
-    put(r, 0, &s());
-    patch(r, b"|0|\x44|60|\0\0\0\0\x44", 1);
-}
-
-pub fn changed_longer_s(rt: &impl Print, q: &[u8]) -> io::Result<()> {
+fn longer_s() -> [u8; 68] {
     let mut r = [0u8; 68];
-    longer_s(&mut r);
-    changed(rt, q, &mut r)
+    put(&mut r, 0, &s());
+    Question(b"|0|\x44|60|\0\0\0\0\x44").patch(&mut r, 1);
+    r
 }
 
 // The second has one string, "AB" without a zero unit before Length2.
 fn sizes(rt: &impl Print) -> io::Result<()> {
     ask(
         rt,
-        Kind::LongerS,
+        |rt, q| changed(rt, q, &mut longer_s()),
         b"\
 S with 68 bytes|0|\x44
 S with a string that has no end|26|\x01|36|\x3c|60|A\0B\0
@@ -260,7 +185,7 @@ fn gapped() -> [u8; 108] {
     let mut r = [0xeeu8; 108];
     put(&mut r, 0, part(&t, 0, 74));
     put(&mut r, 82, part(&t, 76, 97));
-    patch(&mut r, b"|0|\x6c|36|\x5e|44|\x52|52|\x64|104|\x6c\0\0\0", 1);
+    Question(b"|0|\x6c|36|\x5e|44|\x52|52|\x64|104|\x6c\0\0\0").patch(&mut r, 1);
     r
 }
 
@@ -270,12 +195,16 @@ fn gapless() -> [u8; 100] {
     let mut r = [0u8; 100];
     put(&mut r, 0, part(&t, 0, 74));
     put(&mut r, 74, part(&t, 76, 97));
-    patch(&mut r, b"|0|\x64|36|\x56|44|\x4a|52|\x5c|96|\x64", 1);
+    Question(b"|0|\x64|36|\x56|44|\x4a|52|\x5c|96|\x64").patch(&mut r, 1);
     r
 }
 
 fn step_of(rt: &impl Print, what: &[u8], r: &[u8]) -> io::Result<()> {
-    show_step(rt, what, record::step(Edition::Unicode, r, 0))
+    show_step(
+        rt,
+        what,
+        record::step(Edition::Unicode, Direction::Forwards, r, 0),
+    )
 }
 
 fn gaps(rt: &impl Print) -> io::Result<()> {
@@ -284,14 +213,14 @@ fn gaps(rt: &impl Print) -> io::Result<()> {
     show_step(
         rt,
         b"the same from the rear",
-        record::step_back(Edition::Unicode, &r, 108),
+        record::step(Edition::Unicode, Direction::Backwards, &r, 108),
     )?;
     put(&mut r, 36, b"\x5f");
     refusals(rt, b"the same with a string offset of 95", &r)?;
     step_of(rt, b"T with no gap", &gapless())?;
     ask(
         rt,
-        Kind::ChangedS,
+        changed_s,
         b"\
 S with a string inside its names|26|\x01|36|\x38
 S with a string past its end|26|\x01|36|\xff
@@ -300,20 +229,16 @@ S with a string past its end|26|\x01|36|\xff
 }
 
 // The first bytes of these, with bytes put over them.
-fn changed_part(rt: &impl Print, q: &[u8], r: &mut [u8]) -> io::Result<()> {
-    patch(r, q, 2);
-    refusals(rt, what(q), part(r, 0, number(q, 1)))
-}
-
-pub fn many(rt: &impl Print, q: &[u8]) -> io::Result<()> {
-    changed_part(rt, q, &mut [0u8; 580])
+fn changed_part(rt: &impl Print, q: Question<'_>, r: &mut [u8]) -> io::Result<()> {
+    q.patch(r, 2);
+    refusals(rt, q.what(), part(r, 0, q.number(1)))
 }
 
 // So many empty strings.
 fn many_strings(rt: &impl Print) -> io::Result<()> {
     ask(
         rt,
-        Kind::Many,
+        |rt, q| changed_part(rt, q, &mut [0; 580]),
         b"\
 256 strings|576|0|\x40\x02\0\0LfLe|26|\0\x01|36|\x3c|572|\x40\x02
 257 strings|580|0|\x44\x02\0\0LfLe|26|\x01\x01|36|\x3c|576|\x44\x02
@@ -321,15 +246,11 @@ fn many_strings(rt: &impl Print) -> io::Result<()> {
     )
 }
 
-pub fn large(rt: &impl Print, q: &[u8]) -> io::Result<()> {
-    changed_part(rt, q, &mut [0u8; 61508])
-}
-
 // Empty names: 61,440 bytes of data make 61,504 bytes, and 61,441 make 61,508.
 fn most_data(rt: &impl Print) -> io::Result<()> {
     ask(
         rt,
-        Kind::Large,
+        |rt, q| changed_part(rt, q, &mut [0; 61508]),
         b"\
 61440 bytes of data|61504|0|\x40\xf0\0\0LfLe|48|\0\xf0\0\0\x3c|61500|\x40\xf0
 61441 bytes of data|61508|0|\x44\xf0\0\0LfLe|48|\x01\xf0\0\0\x3c|61504|\x44\xf0
@@ -338,33 +259,31 @@ fn most_data(rt: &impl Print) -> io::Result<()> {
 }
 
 // String k of the record at a place of the log, with bytes put over the log: its refusal, where it lies, and its bytes.
-pub fn string(rt: &impl Print, q: &[u8]) -> io::Result<()> {
+fn string(rt: &impl Print, q: Question<'_>) -> io::Result<()> {
     let log = log_with(q, 3);
-    show_string(rt, what(q), &log, number(q, 1), number32(q, 2))
+    show_string(rt, q.what(), &log, q.number(1), q.number(2))
 }
 
 fn show_string(rt: &impl Print, what: &[u8], log: &[u8], at: usize, k: u32) -> io::Result<()> {
-    let p = parts::string_part(Edition::Unicode, log, at, k);
-    let x = parts::string_refusal(Edition::Unicode, log, at, k);
-    line4(
+    line(
         rt,
         what,
-        x.number as u64,
-        x.field as u64,
-        p.at as u64,
-        p.len as u64,
+        (
+            parts::string_refusal(Edition::Unicode, log, at, k),
+            parts::string_part(Edition::Unicode, log, at, k),
+        ),
     )?;
-    bytes(
+    line(
         rt,
         b"  its bytes",
-        parts::string(Edition::Unicode, log, at, k),
+        Hex(parts::string(Edition::Unicode, log, at, k)),
     )
 }
 
 fn strings_by_number(rt: &impl Print) -> io::Result<()> {
     ask(
         rt,
-        Kind::String,
+        string,
         b"\
 string 0 of T|64|0
 string 1 of T|64|1
@@ -380,19 +299,15 @@ string 0 of T with type 3|64|0|88|\x03
 }
 
 // A run of the log and a place in it: the refusal of the string that starts there, where it lies, and the place after it.
-pub fn next_string(rt: &impl Print, q: &[u8]) -> io::Result<()> {
+fn next_string(rt: &impl Print, q: Question<'_>) -> io::Result<()> {
     let run = Part {
-        at: number(q, 1),
-        len: number(q, 2),
+        at: q.number(1),
+        len: q.number(2),
     };
-    let x = strings::next_string(Edition::Unicode, &log(), run, number(q, 3));
-    line4(
+    line(
         rt,
-        what(q),
-        x.refusal as u64,
-        x.string.at as u64,
-        x.string.len as u64,
-        x.next as u64,
+        q.what(),
+        strings::next_string(Edition::Unicode, &log(), run, q.number(3)),
     )
 }
 
@@ -400,7 +315,7 @@ pub fn next_string(rt: &impl Print, q: &[u8]) -> io::Result<()> {
 fn strings_in_turn(rt: &impl Print) -> io::Result<()> {
     ask(
         rt,
-        Kind::NextString,
+        next_string,
         b"\
 next string at 256|256|16|256
 next string at 260|256|16|260
@@ -422,30 +337,34 @@ a run as long as the last number|256|18446744073709551615|256
 }
 
 // The parts of the record at a place of the log.
-pub fn show_parts(rt: &impl Print, q: &[u8]) -> io::Result<()> {
+fn show_parts(rt: &impl Print, q: Question<'_>) -> io::Result<()> {
     let log = log();
-    show_names(rt, what(q), &log, number(q, 1))?;
-    show_others(rt, &log, number(q, 1))
+    show_names(rt, q.what(), &log, q.number(1))?;
+    show_others(rt, &log, q.number(1))
 }
 
 fn show_names(rt: &impl Print, what: &[u8], log: &[u8], at: usize) -> io::Result<()> {
-    bytes(rt, what, parts::source_name(Edition::Unicode, log, at))?;
-    bytes(
+    line(rt, what, Hex(parts::source_name(Edition::Unicode, log, at)))?;
+    line(
         rt,
         b"  computer name",
-        parts::computer_name(Edition::Unicode, log, at),
+        Hex(parts::computer_name(Edition::Unicode, log, at)),
     )
 }
 
 fn show_others(rt: &impl Print, log: &[u8], at: usize) -> io::Result<()> {
-    bytes(rt, b"  SID", parts::sid(Edition::Unicode, log, at))?;
-    bytes(rt, b"  data", parts::event_data(Edition::Unicode, log, at))
+    line(rt, b"  SID", Hex(parts::sid(Edition::Unicode, log, at)))?;
+    line(
+        rt,
+        b"  data",
+        Hex(parts::event_data(Edition::Unicode, log, at)),
+    )
 }
 
 fn shown_parts(rt: &impl Print) -> io::Result<()> {
     ask(
         rt,
-        Kind::Parts,
+        show_parts,
         b"\
 source name of S|0
 source name of T|64
@@ -459,7 +378,7 @@ source name at 1|1
 fn steps(rt: &impl Print) -> io::Result<()> {
     ask(
         rt,
-        Kind::Step,
+        |rt, q| step(rt, Direction::Forwards, q),
         b"\
 step at 0|0
 step at 64|64
@@ -472,7 +391,7 @@ step at the last number|18446744073709551615
     )?;
     ask(
         rt,
-        Kind::StepBack,
+        |rt, q| step(rt, Direction::Backwards, q),
         b"\
 step back at 284|284
 step back at 168|168
@@ -491,7 +410,7 @@ pub fn reading(rt: &impl Print) -> io::Result<()> {
     topic(rt, b"refusals, from the front and from the rear")?;
     ask(
         rt,
-        Kind::StartOfS,
+        start_of_s,
         b"\
 S without its last byte|63
 S|64
@@ -508,7 +427,7 @@ no bytes|0
     most_data(rt)?;
     ask(
         rt,
-        Kind::Published,
+        |rt, q| changed(rt, q, &mut published()),
         b"\
 the record of MS-EVEN 4.2
 the same with a well-formed SID|106|\x01\x01

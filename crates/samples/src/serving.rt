@@ -1,91 +1,48 @@
 // Reads of the log S, T, U: the status, how much was read and how much is needed, the handle, and the records
 // in the output.
 
-use crate::records::{log, log_with, part};
-use crate::show::{bytes, line1, line2, output, output_start, topic};
-use crate::table::{field, find, number, number32, what};
-use crate::{Kind, ask};
+use crate::records::{log, log_with};
+use crate::show::{output, show_read, topic};
+use crate::table::{Question, ask, part};
 use format::Edition;
-use serve::{Answer, Handle, Place};
+use serve::{Handle, Place};
 use std::io;
-
-// 0 for a fresh handle; 1 and its byte position for a boundary.
-fn show_handle(rt: &impl Print, h: Handle) -> io::Result<()> {
-    let place = h.place;
-    match place {
-        Place::Fresh => line1(rt, b"  the handle", 0),
-        Place::Boundary(b) => line2(rt, b"  the handle", 1, b as u64),
-    }
-}
-
-fn show(rt: &impl Print, what: &[u8], a: Answer, out: &[u8]) -> io::Result<()> {
-    rt.write_all(what)?;
-    rt.write_all(b": status ")?;
-    print!(rt; "{:08x}", a.status)?;
-    line2(rt, b", read and needed", a.read as u64, a.needed as u64)?;
-    show_handle(rt, a.handle)?;
-    show_output(rt, out, a.read)
-}
-
-fn show_output(rt: &impl Print, out: &[u8], n: usize) -> io::Result<()> {
-    let w = walk::front(Edition::Unicode, part(out, 0, n));
-    line2(
-        rt,
-        b"  records in the output, and their refusal",
-        w.count as u64,
-        w.refusal.number as u64,
-    )?;
-    // a record's Length, signature and number
-    output_start(rt, out)?;
-    // the four bytes after those read
-    if n <= 524288 {
-        bytes(rt, b"  after them", part(out, n, n + 4))?;
-    }
-    Ok(())
-}
 
 // The fields: where the handle stands, flags, number and size, and what is put over the log. The flags are 5 and 9 for
 // reads forwards and backwards, 6 and 10 for seeks. The output has room for 300 bytes.
-fn read(rt: &impl Print, h: Handle, q: &[u8]) -> io::Result<Handle> {
-    let log = log_with(q, 5);
-    let mut out = [0xaau8; 300];
+fn read(rt: &impl Print, h: Handle, q: Question<'_>) -> io::Result<Handle> {
+    let mut out = [0xaa; 300];
     let a = h.read(
         Edition::Unicode,
-        &log,
-        number32(q, 2),
-        number32(q, 3),
-        number(q, 4),
+        &log_with(q, 5),
+        q.number(2),
+        q.number(3),
+        q.number(4),
         &mut out,
     );
-    show(rt, what(q), a, &out)?;
+    show_read(rt, Edition::Unicode, q.what(), a, &out)?;
     Ok(a.handle)
 }
 
 // Reads with one handle after another.
 fn sequence(rt: &impl Print, table: &[u8]) -> io::Result<()> {
     let mut h = Handle::fresh(0x3F);
-    let mut at = 0usize;
-    while at < table.len() {
-        let end = find(table, at, b'\n');
-        if end >= table.len() {
-            return Ok(());
-        }
-        h = read(rt, h, part(table, at, end))?;
-        at = end + 1;
-    }
-    Ok(())
+    ask(
+        rt,
+        |rt, q| {
+            h = read(rt, h, q)?;
+            Ok(())
+        },
+        table,
+    )
 }
 
 // A handle at a boundary, or a fresh one.
-pub fn read_at(rt: &impl Print, q: &[u8]) -> io::Result<()> {
-    if field(q, 1).len() == 0 {
-        read(rt, Handle::fresh(0x3F), q)?;
-        return Ok(());
+fn read_at(rt: &impl Print, q: Question<'_>) -> io::Result<()> {
+    let mut h = Handle::fresh(0x3F);
+    if !q.field(1).is_empty() {
+        h.place = Place::Boundary(q.number(1));
     }
-    let h = Handle {
-        place: Place::Boundary(number(q, 1)),
-        types: 0x3F,
-    };
     read(rt, h, q)?;
     Ok(())
 }
@@ -108,7 +65,7 @@ then forwards again||5|0|300
 fn reads(rt: &impl Print) -> io::Result<()> {
     ask(
         rt,
-        Kind::ReadAt,
+        read_at,
         b"\
 forwards, 167||5|0|167
 backwards, 220||9|0|220
@@ -139,7 +96,7 @@ backwards from 64|64|9|0|300
 fn damaged(rt: &impl Print) -> io::Result<()> {
     ask(
         rt,
-        Kind::ReadAt,
+        read_at,
         b"\
 forwards, T damaged||5|0|300|68|M
 forwards from 64, T damaged|64|5|0|300|68|M
@@ -153,37 +110,28 @@ seek 9, two of it, backwards||10|9|300|8|\x09
 }
 
 // An empty log: flags, number and size.
-fn read_into(rt: &impl Print, q: &[u8], out: &mut [u8]) -> io::Result<()> {
+fn read_into(rt: &impl Print, q: Question<'_>, out: &mut [u8]) -> io::Result<()> {
     let h = Handle::fresh(0x3F);
     let a = h.read(
         Edition::Unicode,
         b"",
-        number32(q, 1),
-        number32(q, 2),
-        number(q, 3),
+        q.number(1),
+        q.number(2),
+        q.number(3),
         out,
     );
-    show(rt, what(q), a, out)
-}
-
-pub fn read_empty(rt: &impl Print, q: &[u8]) -> io::Result<()> {
-    read_into(rt, q, &mut [0u8; 0])
+    show_read(rt, Edition::Unicode, q.what(), a, out)
 }
 
 // A buffer that is longer than the largest size.
 fn large() -> [u8; 524289] {
-    [0xaau8; 524289]
-}
-
-// Into such a buffer.
-pub fn read_large(rt: &impl Print, q: &[u8]) -> io::Result<()> {
-    read_into(rt, q, &mut large())
+    [0xaa; 524289]
 }
 
 fn empty_log(rt: &impl Print) -> io::Result<()> {
     ask(
         rt,
-        Kind::ReadEmpty,
+        |rt, q| read_into(rt, q, &mut []),
         b"\
 forwards, empty log|5|0|0
 backwards, empty log|9|0|0
@@ -192,7 +140,7 @@ seek, empty log|10|7|0
     )?;
     ask(
         rt,
-        Kind::ReadLarge,
+        |rt, q| read_into(rt, q, &mut large()),
         b"\
 size 524287|5|0|524287
 size 524288|5|0|524288
@@ -202,10 +150,10 @@ size 524288|5|0|524288
 
 // The whole output of a read, each way.
 fn outputs(rt: &impl Print, log: &[u8; 284]) -> io::Result<()> {
-    let mut out = [0xaau8; 170];
+    let mut out = [0xaa; 170];
     let h = Handle::fresh(0x3F);
     let a = h.read(Edition::Unicode, part(log, 0, 168), 9, 0, 170, &mut out);
-    show(rt, b"S and T backwards", a, &out)?;
+    show_read(rt, Edition::Unicode, b"S and T backwards", a, &out)?;
     output(rt, &out)
 }
 

@@ -1,80 +1,61 @@
 // Walks: how many records, the refusal that ended the walk with its field, and where it stopped.
 
-use crate::records::{log, log_with, part, t};
-use crate::show::{line1, line3, line4, topic};
-use crate::table::{nth, number, what};
-use crate::{Kind, Value, ask, each};
-use format::{Direction, Edition, Walked};
-use judge::Verdict;
+use crate::records::{log, log_with, t};
+use crate::show::{line, topic};
+use crate::table::{Question, ask, each, nth, part};
+use format::{Direction, Edition};
 use std::io;
 use stores::put;
-use walk::Stop;
 
 // The log's bytes from one place up to another, with bytes put over the log.
-pub fn walks(rt: &impl Print, q: &[u8]) -> io::Result<()> {
+fn walks(rt: &impl Print, q: Question<'_>) -> io::Result<()> {
     let log = log_with(q, 3);
-    walks_of(rt, what(q), part(&log, number(q, 1), number(q, 2)))
+    walks_of(rt, q.what(), part(&log, q.number(1), q.number(2)))
 }
 
 fn walks_of(rt: &impl Print, what: &[u8], s: &[u8]) -> io::Result<()> {
-    walked(rt, what, walk::walk(Edition::Unicode, s))?;
-    stopped(rt, b"  the front's stop", walk::front(Edition::Unicode, s))?;
-    walked(rt, b"  back", walk::walk_back(Edition::Unicode, s))?;
-    stopped(rt, b"  the rear's stop", walk::rear(Edition::Unicode, s))
-}
-
-fn walked(rt: &impl Print, what: &[u8], w: Walked) -> io::Result<()> {
-    let k = w.refusal;
-    line3(rt, what, w.count as u64, k.number as u64, k.field as u64)
-}
-
-pub fn stopped(rt: &impl Print, what: &[u8], w: Stop) -> io::Result<()> {
-    let k = w.refusal;
-    line4(
+    line(
         rt,
         what,
-        w.count as u64,
-        k.number as u64,
-        k.field as u64,
-        w.at as u64,
+        walk::walk(Edition::Unicode, Direction::Forwards, s),
+    )?;
+    line(
+        rt,
+        b"  the front's stop",
+        walk::ended(Edition::Unicode, Direction::Forwards, s),
+    )?;
+    line(
+        rt,
+        b"  back",
+        walk::walk(Edition::Unicode, Direction::Backwards, s),
+    )?;
+    line(
+        rt,
+        b"  the rear's stop",
+        walk::ended(Edition::Unicode, Direction::Backwards, s),
     )
 }
 
-// The Length of an accepted record; of a refused one 0 and the refusal.
-fn verdict(rt: &impl Print, what: &[u8], v: Verdict) -> io::Result<()> {
-    match v {
-        Verdict::Accepted(n) => line1(rt, what, n as u64),
-        Verdict::Refused(k) => line3(rt, what, 0, k.number as u64, k.field as u64),
-    }
-}
-
-pub fn judged(rt: &impl Print, q: &[u8]) -> io::Result<()> {
-    verdict(
+// The record that is met at a place of the log.
+fn judged(rt: &impl Print, d: Direction, q: Question<'_>) -> io::Result<()> {
+    line(
         rt,
-        what(q),
-        judge::judge(Edition::Unicode, &log(), number(q, 1)),
-    )
-}
-
-pub fn judged_back(rt: &impl Print, q: &[u8]) -> io::Result<()> {
-    verdict(
-        rt,
-        what(q),
-        judge::judge_back(Edition::Unicode, &log(), number(q, 1)),
+        q.what(),
+        judge::judge(Edition::Unicode, d, &log(), q.number(1)),
     )
 }
 
 // The refusal of the log's bytes from one place up to another as one whole record.
-pub fn whole(t: &[u8]) -> u64 {
+fn whole(t: &[u8]) -> u32 {
     let log = log();
     let r = part(&log, nth(t, 0), nth(t, 1));
-    rules::refusal(Edition::Unicode, Direction::Forwards, r).number as u64
+    rules::refusal(Edition::Unicode, Direction::Forwards, r).number
 }
 
 fn verdicts(rt: &impl Print) -> io::Result<()> {
     ask(
         rt,
-        Kind::Judged,
+        |rt, q| judged(rt, Direction::Forwards, q),
         b"\
 judged at 64|64
 judged at 65|65
@@ -83,7 +64,7 @@ judged at 221|221
     )?;
     ask(
         rt,
-        Kind::JudgedBack,
+        |rt, q| judged(rt, Direction::Backwards, q),
         b"\
 judged back at 168|168
 judged back at 64|64
@@ -92,21 +73,19 @@ judged back at 167|167
     )?;
     each(
         rt,
-        Value::Whole,
+        whole,
         b"as a whole record: U, U and a byte, T in U's place, all|168,284|167,284|64,180|0,284\n",
     )
 }
 
 fn directions(rt: &impl Print, what: &[u8], s: &[u8]) -> io::Result<()> {
-    let f = rules::refusal(Edition::Unicode, Direction::Forwards, s);
-    let b = rules::refusal(Edition::Unicode, Direction::Backwards, s);
-    line4(
+    line(
         rt,
         what,
-        f.number as u64,
-        f.field as u64,
-        b.number as u64,
-        b.field as u64,
+        (
+            rules::refusal(Edition::Unicode, Direction::Forwards, s),
+            rules::refusal(Edition::Unicode, Direction::Backwards, s),
+        ),
     )
 }
 
@@ -118,10 +97,10 @@ fn unequal(rt: &impl Print, s: &mut [u8]) -> io::Result<()> {
         b"T with Length 100 as a whole record, met forwards and backwards",
         s,
     )?;
-    verdict(
+    line(
         rt,
         b"judged back",
-        judge::judge_back(Edition::Unicode, s, 104),
+        judge::judge(Edition::Unicode, Direction::Backwards, s, 104),
     )
 }
 
@@ -129,7 +108,7 @@ pub fn walking(rt: &impl Print) -> io::Result<()> {
     topic(rt, b"walks")?;
     ask(
         rt,
-        Kind::Walks,
+        walks,
         b"\
 no bytes|0|0
 S, T, U|0|284

@@ -1,67 +1,44 @@
 // Writing: the refusal, how much was written, and the output.
 
 use crate::reading::refusal_back;
-use crate::records::{numbers, part};
-use crate::show::{bytes, line2, line3, output, topic};
-use crate::table::{field, nth, number, what};
-use crate::{Kind, Value, ask, each};
+use crate::show::{Hex, line, output, topic};
+use crate::table::{Question, ask, each, nth, part};
+use event::Event;
 use format::{Edition, Written};
-use places::measure;
+use places::{Lengths, measure};
 use std::io;
 
-// The event of a question: its numbers, source, computer, SID, strings and data.
-fn write(q: &[u8], out: &mut [u8]) -> Written {
-    writer::write(
-        Edition::Unicode,
-        numbers(field(q, 1)),
-        field(q, 2),
-        field(q, 3),
-        field(q, 4),
-        field(q, 5),
-        field(q, 6),
-        out,
-    )
-}
-
-fn refusal(q: &[u8]) -> u32 {
-    let c = event::check(
-        Edition::Unicode,
-        numbers(field(q, 1)),
-        field(q, 2),
-        field(q, 3),
-        field(q, 4),
-        field(q, 5),
-        field(q, 6),
-    );
-    c.refusal
+// The number of the refusal of a question's event, 0 for none.
+fn refusal(q: Question<'_>) -> u32 {
+    match event::check(Edition::Unicode, &q.event(1)) {
+        Ok(_) => 0,
+        Err(k) => k.number(),
+    }
 }
 
 // Into a buffer of 120 bytes.
-pub fn record(rt: &impl Print, q: &[u8]) -> io::Result<()> {
-    let mut out = [0xaau8; 120];
-    let w = write(q, &mut out);
-    line3(
-        rt,
-        what(q),
-        w.refusal as u64,
-        w.length as u64,
-        refusal(q) as u64,
-    )?;
+fn record(rt: &impl Print, q: Question<'_>) -> io::Result<()> {
+    let mut out = [0xaa; 120];
+    let w = writer::write(Edition::Unicode, &q.event(1), &mut out);
+    line(rt, q.what(), (w, refusal(q)))?;
     output(rt, &out)
 }
 
 // Into a buffer of 80 bytes.
-pub fn event(rt: &impl Print, q: &[u8]) -> io::Result<()> {
-    let mut out = [0xaau8; 80];
-    let w = write(q, &mut out);
-    line2(rt, what(q), w.refusal as u64, w.length as u64)?;
-    bytes(rt, b"  the output's start", part(&out, 0, 4))
+fn event(rt: &impl Print, q: Question<'_>) -> io::Result<()> {
+    let mut out = [0xaa; 80];
+    line(
+        rt,
+        q.what(),
+        writer::write(Edition::Unicode, &q.event(1), &mut out),
+    )?;
+    line(rt, b"  the output's start", Hex(part(&out, 0, 4)))
 }
 
 fn records(rt: &impl Print) -> io::Result<()> {
     ask(
         rt,
-        Kind::Record,
+        record,
         b"\
 S|7
 T|8,0,1|S\0c\0a\0l\0e\0|T\x001\0|\x01\x01\0\0\0\0\0\0\0\0\0\0|O\0K\0\0\0|\0\0\0
@@ -74,7 +51,7 @@ U|9,4,3,32768,1001,1002,1003,7|P\0a\0n\0s\0|K\0|\x01\x02\0\0\0\0\0\x05\x15\0\0\0
 fn events(rt: &impl Print) -> io::Result<()> {
     ask(
         rt,
-        Kind::Event,
+        event,
         b"\
 type 3|7,3
 type 16|7,16
@@ -106,38 +83,38 @@ no strings, 1 given|7||||\0\0
 }
 
 // A source name and data of these lengths, into so much room.
-pub fn long(rt: &impl Print, q: &[u8]) -> io::Result<()> {
-    let mut out = [0u8; 65540];
-    let room = number(q, 3);
-    if room <= 65540 {
-        long_into(rt, q, &[0u8; 262100], &mut out[..room])?;
+fn long(rt: &impl Print, q: Question<'_>) -> io::Result<()> {
+    if let Some(out) = [0; 65540].get_mut(..q.number(3)) {
+        long_into(rt, q, &[0; 262100], out)?;
     }
     Ok(())
 }
 
-fn long_into(rt: &impl Print, q: &[u8], zeros: &[u8; 262100], out: &mut [u8]) -> io::Result<()> {
-    let none: &[u8] = b"";
-    let w = writer::write(
-        Edition::Unicode,
-        numbers(b"7"),
-        part(&[1u8; 4032], 0, number(q, 1)),
-        none,
-        none,
-        none,
-        part(zeros, 0, number(q, 2)),
-        out,
-    );
-    line2(rt, what(q), w.refusal as u64, w.length as u64)?;
+fn long_into(
+    rt: &impl Print,
+    q: Question<'_>,
+    zeros: &[u8; 262100],
+    out: &mut [u8],
+) -> io::Result<()> {
+    let event = Event {
+        source_name: part(&[1; 4032], 0, q.number(1)),
+        event_data: part(zeros, 0, q.number(2)),
+        ..Question(b"7").event(0)
+    };
+    let w = writer::write(Edition::Unicode, &event, out);
+    line(rt, q.what(), w)?;
     read_again(rt, w, out)
 }
 
 fn read_again(rt: &impl Print, w: Written, out: &[u8]) -> io::Result<()> {
     if w.refusal == 0 {
-        line2(
+        line(
             rt,
             b"  read again, and from the rear",
-            record::refusal(Edition::Unicode, out, 0).number as u64,
-            refusal_back(out, w.length).number as u64,
+            (
+                record::refusal(Edition::Unicode, out, 0).number,
+                refusal_back(out, w.length).number,
+            ),
         )?;
     }
     Ok(())
@@ -146,7 +123,7 @@ fn read_again(rt: &impl Print, w: Written, out: &[u8]) -> io::Result<()> {
 fn lengths_refused(rt: &impl Print) -> io::Result<()> {
     ask(
         rt,
-        Kind::Long,
+        long,
         b"\
 Length 24096|4032|20000|65540
 61441 bytes of data|0|61441|65540
@@ -159,22 +136,24 @@ Length 24096|4032|20000|65540
 }
 
 // The Length of a record with parts of these lengths, 0 where it would be too long.
-pub fn length_of(t: &[u8]) -> u64 {
-    measure(
-        Edition::Unicode,
-        nth(t, 0),
-        nth(t, 1),
-        nth(t, 2),
-        nth(t, 3),
-        nth(t, 4),
-    )
-    .length as u64
+fn length_of(t: &[u8]) -> u32 {
+    let lengths = Lengths {
+        source_name: nth(t, 0),
+        computer_name: nth(t, 1),
+        sid: nth(t, 2),
+        strings: nth(t, 3),
+        event_data: nth(t, 4),
+    };
+    match measure(Edition::Unicode, lengths) {
+        Some(p) => p.length,
+        None => 0,
+    }
 }
 
 fn lengths(rt: &impl Print) -> io::Result<()> {
     each(
         rt,
-        Value::Length,
+        length_of,
         b"\
 Lengths 65536, 262140, 262144|4032,0,0,0,61440|200636,0,0,0,61440|200640,0,0,0,61440
 Lengths of parts as long as a number can be|18446744073709551615|0,18446744073709551614,2\

@@ -1,11 +1,8 @@
 // The calls for C in the editions 0, 1, 2 and 4294967295: 0 is Unicode, and every other number ANSI.
 
-use crate::reading::show_record;
-use crate::records::{log, numbers, part, unnumbered};
-use crate::show::{bytes, line2, line3, line4, output, output_start, topic};
-use crate::table::{field, number32, what};
-use crate::walks::stopped;
-use crate::{Kind, ask};
+use crate::records::log;
+use crate::show::{Hex, line, output, output_start, show_record, topic};
+use crate::table::{Question, ask, part};
 use eventlog_append::eventlog_append;
 use eventlog_listing::eventlog_listing;
 use eventlog_records::{
@@ -23,8 +20,7 @@ use stepped::Stepped;
 use stores::put;
 
 fn stepped(rt: &impl Print, what: &[u8], x: Stepped) -> io::Result<()> {
-    let k = x.refusal;
-    line3(rt, what, k.number as u64, k.field as u64, x.at as u64)?;
+    line(rt, what, (x.refusal, x.at))?;
     show_record(rt, b"  found", x.found)
 }
 
@@ -32,76 +28,69 @@ fn stepped(rt: &impl Print, what: &[u8], x: Stepped) -> io::Result<()> {
 fn steps(rt: &impl Print, e: u32, log: &[u8; 256]) -> io::Result<()> {
     stepped(rt, b"step at 64", eventlog_step(e, log, 64))?;
     stepped(rt, b"step back at 156", eventlog_step_back(e, log, 156))?;
-    let k = eventlog_refusal(e, log, 64);
-    line2(rt, b"refusal at 64", k.number as u64, k.field as u64)
+    line(rt, b"refusal at 64", eventlog_refusal(e, log, 64))
 }
 
-// String 2 of U, by number.
-fn string(rt: &impl Print, e: u32, log: &[u8; 256]) -> io::Result<()> {
-    let p = eventlog_string(e, log, 156, 2);
-    let k = eventlog_string_refusal(e, log, 156, 2);
-    line4(
+// String 2 of U, by number, and the same in turn.
+fn strings(rt: &impl Print, e: u32, log: &[u8; 256]) -> io::Result<()> {
+    line(
         rt,
         b"string 2 of U",
-        k.number as u64,
-        k.field as u64,
-        p.at as u64,
-        p.len as u64,
-    )
-}
-
-// The same in turn.
-fn next_string(rt: &impl Print, e: u32, log: &[u8; 256]) -> io::Result<()> {
-    let x = eventlog_next_string(e, log, Part { at: 236, len: 8 }, 239);
-    line4(
+        (
+            eventlog_string_refusal(e, log, 156, 2),
+            eventlog_string(e, log, 156, 2),
+        ),
+    )?;
+    line(
         rt,
         b"next string at 239",
-        x.refusal as u64,
-        x.string.at as u64,
-        x.string.len as u64,
-        x.next as u64,
+        eventlog_next_string(e, log, Part { at: 236, len: 8 }, 239),
     )
 }
 
 fn walks(rt: &impl Print, e: u32, log: &[u8; 256]) -> io::Result<()> {
-    stopped(rt, b"walk", eventlog_walk(e, log))?;
-    stopped(rt, b"walk back", eventlog_walk_back(e, log))
+    line(rt, b"walk", eventlog_walk(e, log))?;
+    line(rt, b"walk back", eventlog_walk_back(e, log))
 }
 
 // The edition, and an event: its numbers, source, computer, SID, strings and data.
-fn write(rt: &impl Print, e: u32, q: &[u8], out: &mut [u8]) -> io::Result<()> {
+fn write(rt: &impl Print, e: u32, q: Question<'_>, out: &mut [u8]) -> io::Result<()> {
+    let x = q.event(1);
     let w = eventlog_write(
         e,
-        numbers(field(q, 1)),
-        field(q, 2),
-        field(q, 3),
-        field(q, 4),
-        field(q, 5),
-        field(q, 6),
+        x.fields,
+        x.source_name,
+        x.computer_name,
+        x.sid,
+        x.strings,
+        x.event_data,
         out,
     );
-    line2(rt, what(q), w.refusal as u64, w.length as u64)?;
+    line(rt, q.what(), w)?;
     output(rt, out)
 }
 
 // An event with no parts, behind U.
 fn append(rt: &impl Print, e: u32, log: &mut [u8]) -> io::Result<()> {
-    let none: &[u8] = b"";
-    let a = eventlog_append(e, log, 256, unnumbered(b",1"), none, none, none, none, none);
-    let k = a.refusal;
-    line3(
-        rt,
-        b"append",
-        k.number as u64,
-        k.field as u64,
-        a.used as u64,
-    )
+    let x = Question(b",1").unnumbered(0);
+    let a = eventlog_append(
+        e,
+        log,
+        256,
+        x.fields,
+        x.source_name,
+        x.computer_name,
+        x.sid,
+        x.strings,
+        x.event_data,
+    );
+    line(rt, b"append", a)
 }
 
 fn appends(rt: &impl Print, e: u32, log: &mut [u8], s: &[u8]) -> io::Result<()> {
     put(log, 0, s);
     append(rt, e, log)?;
-    bytes(rt, b"  the log's end", part(log, 256, 320))
+    line(rt, b"  the log's end", Hex(part(log, 256, 320)))
 }
 
 fn read(
@@ -112,13 +101,12 @@ fn read(
     log: &[u8; 256],
     flags: u32,
 ) -> io::Result<ReadHandle> {
-    let mut out = [0xaau8; 256];
+    let mut out = [0xaa; 256];
     let a = eventlog_read(e, h, log, flags, 8, 256, &mut out);
-    line3(rt, what, a.status as u64, a.read as u64, a.needed as u64)?;
-    let h = a.handle;
-    line2(rt, b"  the handle", h.kind as u64, h.boundary as u64)?;
+    line(rt, what, (a.status, a.read, a.needed))?;
+    line(rt, b"  the handle", (a.handle.kind, a.handle.boundary))?;
     output_start(rt, &out)?;
-    Ok(h)
+    Ok(a.handle)
 }
 
 fn reads(rt: &impl Print, e: u32, log: &[u8; 256]) -> io::Result<()> {
@@ -130,39 +118,37 @@ fn reads(rt: &impl Print, e: u32, log: &[u8; 256]) -> io::Result<()> {
 }
 
 fn listing(rt: &impl Print, e: u32, log: &[u8; 256], out: &mut [u8]) -> io::Result<()> {
-    let w = eventlog_listing(e, log, out);
-    line2(rt, b"listing", w.refusal as u64, w.length as u64)?;
+    line(rt, b"listing", eventlog_listing(e, log, out))?;
     output(rt, out)
 }
 
 // A topic, and the edition.
-pub fn calls(rt: &impl Print, q: &[u8]) -> io::Result<()> {
+fn calls(rt: &impl Print, q: Question<'_>) -> io::Result<()> {
     let log = log();
-    let e = number32(q, 1);
-    topic(rt, what(q))?;
+    let e = q.number(1);
+    topic(rt, q.what())?;
     asks(rt, e, &log)?;
     write(
         rt,
         e,
-        b"write|5,0,1|ABC|K||D\0|\xd1\xd2\xd3",
-        &mut [0xaau8; 76],
+        Question(b"write|5,0,1|ABC|K||D\0|\xd1\xd2\xd3"),
+        &mut [0xaa; 76],
     )?;
-    appends(rt, e, &mut [0xaau8; 320], &log)?;
+    appends(rt, e, &mut [0xaa; 320], &log)?;
     reads(rt, e, &log)?;
-    listing(rt, e, &log, &mut [0xaau8; 36])
+    listing(rt, e, &log, &mut [0xaa; 36])
 }
 
 fn asks(rt: &impl Print, e: u32, log: &[u8; 256]) -> io::Result<()> {
     steps(rt, e, log)?;
-    string(rt, e, log)?;
-    next_string(rt, e, log)?;
+    strings(rt, e, log)?;
     walks(rt, e, log)
 }
 
 pub fn interface(rt: &impl Print) -> io::Result<()> {
     ask(
         rt,
-        Kind::Calls,
+        calls,
         b"\
 the calls for C in edition 0|0
 the calls for C in edition 1|1

@@ -1,44 +1,26 @@
 // Judging: the Length or the refusal of the record at a place, and the refusal of bytes as one whole record.
 
-use crate::records::{log, part, t, unicode_t};
-use crate::show::{line, line1, line3, line4, topic};
-use crate::table::{edition, number, what};
-use crate::{Kind, ask};
+use crate::records::{edition, log, t, unicode_t};
+use crate::show::{line, topic};
+use crate::table::{Question, ask, part};
 use format::{Direction, Edition, Refusal};
-use judge::Verdict;
 use rules::Measured;
 use std::io;
 use stores::put;
 
-// The Length of an accepted record; of a refused one 0 and the refusal.
-fn verdict(rt: &impl Print, what: &[u8], v: Verdict) -> io::Result<()> {
-    match v {
-        Verdict::Accepted(n) => line1(rt, what, n as u64),
-        Verdict::Refused(k) => line3(rt, what, 0, k.number as u64, k.field as u64),
-    }
-}
-
 // A place of the log, and the edition.
-pub fn judged(rt: &impl Print, q: &[u8]) -> io::Result<()> {
-    verdict(
+fn judged(rt: &impl Print, d: Direction, q: Question<'_>) -> io::Result<()> {
+    line(
         rt,
-        what(q),
-        judge::judge(edition(q, 2), &log(), number(q, 1)),
-    )
-}
-
-pub fn judged_back(rt: &impl Print, q: &[u8]) -> io::Result<()> {
-    verdict(
-        rt,
-        what(q),
-        judge::judge_back(edition(q, 2), &log(), number(q, 1)),
+        q.what(),
+        judge::judge(edition(q, 2), d, &log(), q.number(1)),
     )
 }
 
 fn verdicts(rt: &impl Print) -> io::Result<()> {
     ask(
         rt,
-        Kind::Judged,
+        |rt, q| judged(rt, Direction::Forwards, q),
         b"\
 judged at 64|64
 judged at 64 in Unicode|64|Unicode
@@ -48,7 +30,7 @@ judged at 193|193
     )?;
     ask(
         rt,
-        Kind::JudgedBack,
+        |rt, q| judged(rt, Direction::Backwards, q),
         b"\
 judged back at 156|156
 judged back at 156 in Unicode|156|Unicode
@@ -60,43 +42,31 @@ judged back at 155|155
 
 // What judging finds: the refusal and its field; the Length; and where the computer name starts, the names end
 // and the strings end.
-fn found(rt: &impl Print, what: &[u8], m: Measured) -> io::Result<()> {
-    let k = m.refusal;
-    line(
-        rt,
-        what,
-        &[
-            k.number as u64,
-            k.field as u64,
-            m.length as u64,
-            m.computer as u64,
-            m.names as u64,
-            m.strings as u64,
-        ],
-    )
+fn found(rt: &impl Print, what: &[u8], m: Result<Measured, Refusal>) -> io::Result<()> {
+    let nothing = ((0u32, 0u32), (0u32, 0u32));
+    match m {
+        Ok(m) => line(
+            rt,
+            what,
+            ((0u32, 0u32), (m.length, m.computer), (m.names, m.strings)),
+        ),
+        Err(k) => line(rt, what, (k, nothing)),
+    }
 }
 
 // A place of the log.
-pub fn measured(rt: &impl Print, q: &[u8]) -> io::Result<()> {
+fn measured(rt: &impl Print, d: Direction, q: Question<'_>) -> io::Result<()> {
     found(
         rt,
-        what(q),
-        judge::measure(Edition::Ansi, &log(), number(q, 1)),
-    )
-}
-
-pub fn measured_back(rt: &impl Print, q: &[u8]) -> io::Result<()> {
-    found(
-        rt,
-        what(q),
-        judge::measure_back(Edition::Ansi, &log(), number(q, 1)),
+        q.what(),
+        judge::measure(Edition::Ansi, d, &log(), q.number(1)),
     )
 }
 
 fn measures(rt: &impl Print) -> io::Result<()> {
     ask(
         rt,
-        Kind::Measured,
+        |rt, q| measured(rt, Direction::Forwards, q),
         b"\
 measured at 64|64
 measured at 65|65
@@ -104,7 +74,7 @@ measured at 65|65
     )?;
     ask(
         rt,
-        Kind::MeasuredBack,
+        |rt, q| measured(rt, Direction::Backwards, q),
         b"\
 measured back at 156|156
 measured back at 155|155
@@ -115,37 +85,34 @@ measured back at 155|155
         b"T measured",
         rules::measure(Edition::Ansi, Direction::Forwards, &t()),
     )?;
+    let mut flagged = t();
+    put(&mut flagged, 30, b"\x01");
     found(
         rt,
         b"refused",
-        rules::refused(Refusal {
-            number: 7,
-            field: 30,
-        }),
+        rules::measure(Edition::Ansi, Direction::Forwards, &flagged),
     )
 }
 
 // Bytes as one whole record, met forwards and backwards.
 fn whole(rt: &impl Print, what: &[u8], e: Edition, r: &[u8]) -> io::Result<()> {
-    let f = rules::refusal(e, Direction::Forwards, r);
-    let b = rules::refusal(e, Direction::Backwards, r);
-    line4(
+    line(
         rt,
         what,
-        f.number as u64,
-        f.field as u64,
-        b.number as u64,
-        b.field as u64,
+        (
+            rules::refusal(e, Direction::Forwards, r),
+            rules::refusal(e, Direction::Backwards, r),
+        ),
     )
 }
 
 // The log's bytes from one place up to another.
-pub fn whole_part(rt: &impl Print, q: &[u8]) -> io::Result<()> {
+fn whole_part(rt: &impl Print, q: Question<'_>) -> io::Result<()> {
     whole(
         rt,
-        what(q),
+        q.what(),
         Edition::Ansi,
-        part(&log(), number(q, 1), number(q, 2)),
+        part(&log(), q.number(1), q.number(2)),
     )
 }
 
@@ -161,7 +128,7 @@ pub fn judging(rt: &impl Print) -> io::Result<()> {
     measures(rt)?;
     ask(
         rt,
-        Kind::Whole,
+        whole_part,
         b"\
 as a whole record: S|0|64
 T|64|156

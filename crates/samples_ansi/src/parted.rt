@@ -1,34 +1,37 @@
 // Parts and strings: by place, by number, and in turn.
 
-use crate::records::{log, unicode_log};
-use crate::show::{bytes, line4, topic};
-use crate::table::{edition, number, number32, what};
-use crate::{Kind, ask};
+use crate::records::{edition, log, unicode_log};
+use crate::show::{Hex, line, topic};
+use crate::table::{Question, ask};
 use format::{Edition, Part};
 use std::io;
 
 // The parts of the record at a place of the log.
-pub fn show_parts(rt: &impl Print, q: &[u8]) -> io::Result<()> {
+fn show_parts(rt: &impl Print, q: Question<'_>) -> io::Result<()> {
     let log = log();
-    show_names(rt, what(q), &log, number(q, 1))?;
-    show_others(rt, &log, number(q, 1))
+    show_names(rt, q.what(), &log, q.number(1))?;
+    show_others(rt, &log, q.number(1))
 }
 
 fn show_names(rt: &impl Print, what: &[u8], log: &[u8], at: usize) -> io::Result<()> {
-    bytes(rt, what, parts::source_name(Edition::Ansi, log, at))?;
-    bytes(
+    line(rt, what, Hex(parts::source_name(Edition::Ansi, log, at)))?;
+    line(
         rt,
         b"  computer name",
-        parts::computer_name(Edition::Ansi, log, at),
+        Hex(parts::computer_name(Edition::Ansi, log, at)),
     )
 }
 
 fn show_others(rt: &impl Print, log: &[u8], at: usize) -> io::Result<()> {
-    bytes(rt, b"  SID", parts::sid(Edition::Ansi, log, at))?;
-    bytes(rt, b"  data", parts::event_data(Edition::Ansi, log, at))
+    line(rt, b"  SID", Hex(parts::sid(Edition::Ansi, log, at)))?;
+    line(
+        rt,
+        b"  data",
+        Hex(parts::event_data(Edition::Ansi, log, at)),
+    )
 }
 
-// Where string k of the record at a place lies, its refusal, and its bytes.
+// The refusal of string k of the record at a place, where it lies, and its bytes.
 fn show_string(
     rt: &impl Print,
     what: &[u8],
@@ -37,46 +40,40 @@ fn show_string(
     at: usize,
     k: u32,
 ) -> io::Result<()> {
-    let p = parts::string_part(e, log, at, k);
-    let x = parts::string_refusal(e, log, at, k);
-    line4(
+    line(
         rt,
         what,
-        x.number as u64,
-        x.field as u64,
-        p.at as u64,
-        p.len as u64,
+        (
+            parts::string_refusal(e, log, at, k),
+            parts::string_part(e, log, at, k),
+        ),
     )?;
-    bytes(rt, b"  its bytes", parts::string(e, log, at, k))
+    line(rt, b"  its bytes", Hex(parts::string(e, log, at, k)))
 }
 
 // A place of the log, the string's number, and the edition.
-pub fn string(rt: &impl Print, q: &[u8]) -> io::Result<()> {
+fn string(rt: &impl Print, q: Question<'_>) -> io::Result<()> {
     show_string(
         rt,
-        what(q),
+        q.what(),
         edition(q, 3),
         &log(),
-        number(q, 1),
-        number32(q, 2),
+        q.number(1),
+        q.number(2),
     )
 }
 
 // Where the run starts, its length, a place, and the edition: the refusal of the string that starts there, where it lies,
 // and the place after it.
-pub fn next_string(rt: &impl Print, q: &[u8]) -> io::Result<()> {
+fn next_string(rt: &impl Print, q: Question<'_>) -> io::Result<()> {
     let run = Part {
-        at: number(q, 1),
-        len: number(q, 2),
+        at: q.number(1),
+        len: q.number(2),
     };
-    let x = strings::next_string(edition(q, 4), &log(), run, number(q, 3));
-    line4(
+    line(
         rt,
-        what(q),
-        x.refusal as u64,
-        x.string.at as u64,
-        x.string.len as u64,
-        x.next as u64,
+        q.what(),
+        strings::next_string(edition(q, 4), &log(), run, q.number(3)),
     )
 }
 
@@ -84,7 +81,7 @@ pub fn next_string(rt: &impl Print, q: &[u8]) -> io::Result<()> {
 fn strings_in_turn(rt: &impl Print) -> io::Result<()> {
     ask(
         rt,
-        Kind::NextString,
+        next_string,
         b"\
 next string at 236|236|8|236
 next string at 238|236|8|238
@@ -110,7 +107,7 @@ pub fn parted(rt: &impl Print) -> io::Result<()> {
     topic(rt, b"parts and strings")?;
     ask(
         rt,
-        Kind::Parts,
+        show_parts,
         b"\
 source name of S|0
 source name of T|64
@@ -120,7 +117,7 @@ source name at 1|1
     )?;
     ask(
         rt,
-        Kind::String,
+        string,
         b"\
 string 0 of T|64|0
 string 1 of T|64|1

@@ -1,123 +1,57 @@
 // Reading: records at a place and from the rear, and their refusals.
 
-use crate::records::{log, part, s, t, unicode_t};
-use crate::show::{line, line3, line4, topic};
-use crate::table::{edition, number, patch, what};
-use crate::{Kind, ask};
-use format::{Edition, Record, Refusal, Step};
+use crate::records::{edition, log, s, t, unicode_t};
+use crate::show::{line, show_step, topic};
+use crate::table::{Question, ask, part};
+use format::{Direction, Edition, NO_REFUSAL, Refusal};
 use std::io;
 use stores::put;
 
-fn show_numbers(rt: &impl Print, a: Record) -> io::Result<()> {
-    let f = a.fields;
-    line(
-        rt,
-        b"  number, times, event, type, strings, category, flags",
-        &[
-            f.record_number as u64,
-            f.time_generated as u64,
-            f.time_written as u64,
-            f.event_id as u64,
-            f.event_type as u64,
-            f.num_strings as u64,
-            f.event_category as u64,
-            f.reserved_flags as u64,
-        ],
-    )
-}
-
-fn show_places(rt: &impl Print, a: Record) -> io::Result<()> {
-    line4(
-        rt,
-        b"  names",
-        a.source_name.at as u64,
-        a.source_name.len as u64,
-        a.computer_name.at as u64,
-        a.computer_name.len as u64,
-    )?;
-    line(
-        rt,
-        b"  SID, strings and data",
-        &[
-            a.sid.at as u64,
-            a.sid.len as u64,
-            a.strings.at as u64,
-            a.strings.len as u64,
-            a.event_data.at as u64,
-            a.event_data.len as u64,
-        ],
-    )
-}
-
-// Start and Length, the numbers, and where the parts lie.
-pub fn show_record(rt: &impl Print, what: &[u8], a: Record) -> io::Result<()> {
-    line3(rt, what, 0, a.start as u64, a.length as u64)?;
-    show_numbers(rt, a)?;
-    show_places(rt, a)
-}
-
-fn show_step(rt: &impl Print, what: &[u8], x: Step) -> io::Result<()> {
-    match x {
-        Step::Found(a) => show_record(rt, what, a),
-        Step::Refused { refusal: k, at: p } => {
-            line3(rt, what, k.number as u64, k.field as u64, p as u64)
-        }
-    }
-}
-
-// A place of the log.
-pub fn step(rt: &impl Print, q: &[u8]) -> io::Result<()> {
+// The record that is met at a place of the log.
+fn step(rt: &impl Print, d: Direction, q: Question<'_>) -> io::Result<()> {
     show_step(
         rt,
-        what(q),
-        record::step(Edition::Ansi, &log(), number(q, 1)),
-    )
-}
-
-pub fn step_back(rt: &impl Print, q: &[u8]) -> io::Result<()> {
-    show_step(
-        rt,
-        what(q),
-        record::step_back(Edition::Ansi, &log(), number(q, 1)),
+        q.what(),
+        record::step(Edition::Ansi, d, &log(), q.number(1)),
     )
 }
 
 // The record that fills the buffer, from both ends.
 fn steps_of(rt: &impl Print, what: &[u8], r: &[u8]) -> io::Result<()> {
-    show_step(rt, what, record::step(Edition::Ansi, r, 0))?;
-    show_step(rt, b"  back", record::step_back(Edition::Ansi, r, r.len()))
+    show_step(
+        rt,
+        what,
+        record::step(Edition::Ansi, Direction::Forwards, r, 0),
+    )?;
+    show_step(
+        rt,
+        b"  back",
+        record::step(Edition::Ansi, Direction::Backwards, r, r.len()),
+    )
 }
 
 // The refusal of the record that ends at a place.
 fn refusal_back(e: Edition, r: &[u8], end: usize) -> Refusal {
-    match record::step_back(e, r, end) {
-        Step::Found(_) => Refusal {
-            number: 0,
-            field: 0,
-        },
-        Step::Refused { refusal: k, at: _ } => k,
+    match record::step(e, Direction::Backwards, r, end) {
+        Ok(_) => NO_REFUSAL,
+        Err(x) => x.refusal,
     }
 }
 
 // The refusals of the record that fills the buffer, each with its field: of the step at its start, and of the
 // step from its end.
 fn refusals_in(rt: &impl Print, e: Edition, what: &[u8], r: &[u8]) -> io::Result<()> {
-    let f = record::refusal(e, r, 0);
-    let b = refusal_back(e, r, r.len());
-    line4(
+    line(
         rt,
         what,
-        f.number as u64,
-        f.field as u64,
-        b.number as u64,
-        b.field as u64,
+        (record::refusal(e, r, 0), refusal_back(e, r, r.len())),
     )
 }
 
 fn steps(rt: &impl Print) -> io::Result<()> {
     ask(
         rt,
-        Kind::Step,
+        |rt, q| step(rt, Direction::Forwards, q),
         b"\
 step at 0|0
 step at 64|64
@@ -129,7 +63,7 @@ step at the last number|18446744073709551615
     )?;
     ask(
         rt,
-        Kind::StepBack,
+        |rt, q| step(rt, Direction::Backwards, q),
         b"\
 step back at 256|256
 step back at 156|156
@@ -142,12 +76,12 @@ step back at 257|257
 }
 
 // A record with bytes put over it, from field k on.
-fn changed(rt: &impl Print, q: &[u8], k: usize, r: &mut [u8]) -> io::Result<()> {
-    patch(r, q, k);
-    refusals_in(rt, Edition::Ansi, what(q), r)
+fn changed(rt: &impl Print, q: Question<'_>, k: usize, r: &mut [u8]) -> io::Result<()> {
+    q.patch(r, k);
+    refusals_in(rt, Edition::Ansi, q.what(), r)
 }
 
-pub fn changed_t(rt: &impl Print, q: &[u8]) -> io::Result<()> {
+fn changed_t(rt: &impl Print, q: Question<'_>) -> io::Result<()> {
     changed(rt, q, 1, &mut t())
 }
 
@@ -155,7 +89,7 @@ pub fn changed_t(rt: &impl Print, q: &[u8]) -> io::Result<()> {
 fn fixed_fields(rt: &impl Print) -> io::Result<()> {
     ask(
         rt,
-        Kind::ChangedT,
+        changed_t,
         b"\
 T|0|
 T with Length 60|0|\x3c
@@ -175,7 +109,7 @@ T with 257 strings|26|\x01\x01
 fn parts(rt: &impl Print) -> io::Result<()> {
     ask(
         rt,
-        Kind::ChangedT,
+        changed_t,
         b"\
 T with SID offset 64|44|\x40
 T with SID offset 65|44|\x41
@@ -203,17 +137,17 @@ T with 6 bytes of data|48|\x06
 }
 
 // S with bytes put over it.
-pub fn steps_of_s(rt: &impl Print, q: &[u8]) -> io::Result<()> {
+fn steps_of_s(rt: &impl Print, q: Question<'_>) -> io::Result<()> {
     let mut r = s();
-    patch(&mut r, q, 1);
-    steps_of(rt, what(q), &r)
+    q.patch(&mut r, 1);
+    steps_of(rt, q.what(), &r)
 }
 
 // 9: of S, whose names lie in the four bytes at 56.
 fn names(rt: &impl Print) -> io::Result<()> {
     ask(
         rt,
-        Kind::StepsOfS,
+        steps_of_s,
         b"\
 S with names of 0 and 0 bytes, and a gap of two|56|\0\0AB
 S with names of 1 and 0 bytes|56|A\0\0B
@@ -233,7 +167,7 @@ S with a computer name of three bytes that has no end|56|\0ABC
 fn strings_after_names(rt: &impl Print) -> io::Result<()> {
     ask(
         rt,
-        Kind::StepsOfS,
+        steps_of_s,
         b"\
 S with an empty string at 58|26|\x01|36|\x3a|58|\0\0
 S with a string of 1 byte at 58|26|\x01|36|\x3a|58|A\0
@@ -254,7 +188,7 @@ fn gapped() -> [u8; 96] {
     let mut r = [0xeeu8; 96];
     put(&mut r, 0, part(&t, 0, 65));
     put(&mut r, 72, part(&t, 68, 86));
-    patch(&mut r, b"|0|\x60|36|\x54|44|\x48|52|\x57|92|\x60\0\0\0", 1);
+    Question(b"|0|\x60|36|\x54|44|\x48|52|\x57|92|\x60\0\0\0").patch(&mut r, 1);
     r
 }
 
@@ -264,12 +198,8 @@ fn gapless() -> [u8; 88] {
     let mut r = [0xeeu8; 88];
     put(&mut r, 0, part(&t, 0, 65));
     put(&mut r, 65, part(&t, 68, 86));
-    patch(&mut r, b"|0|\x58|36|\x4d|44|\x41|52|\x50|84|\x58\0\0\0", 1);
+    Question(b"|0|\x58|36|\x4d|44|\x41|52|\x50|84|\x58\0\0\0").patch(&mut r, 1);
     r
-}
-
-pub fn changed_gapped(rt: &impl Print, q: &[u8]) -> io::Result<()> {
-    changed(rt, q, 1, &mut gapped())
 }
 
 fn gaps(rt: &impl Print) -> io::Result<()> {
@@ -277,18 +207,17 @@ fn gaps(rt: &impl Print) -> io::Result<()> {
     steps_of(rt, b"T with no gap", &gapless())?;
     ask(
         rt,
-        Kind::ChangedGapped,
+        |rt, q| changed(rt, q, 1, &mut gapped()),
         b"T with a gap of seven bytes and one before its string|36|\x55\n",
     )
 }
 
 // 320 bytes that are all 0, or 256 that are all 1, with bytes put over them.
-pub fn filled(rt: &impl Print, q: &[u8]) -> io::Result<()> {
-    if number(q, 1) == 0 {
-        changed(rt, q, 2, &mut [0u8; 320])?;
-        return Ok(());
+fn filled(rt: &impl Print, q: Question<'_>) -> io::Result<()> {
+    match q.number::<u32>(1) {
+        0 => changed(rt, q, 2, &mut [0; 320]),
+        _ => changed(rt, q, 2, &mut [1; 256]),
     }
-    changed(rt, q, 2, &mut [1u8; 256])
 }
 
 // So many empty strings at 58; and a record of 256 bytes, whose Length2 begins with a zero byte: a name and a string up to
@@ -296,7 +225,7 @@ pub fn filled(rt: &impl Print, q: &[u8]) -> io::Result<()> {
 fn long_records(rt: &impl Print) -> io::Result<()> {
     ask(
         rt,
-        Kind::Filled,
+        filled,
         b"\
 256 strings|0|0|\x40\x01\0\0LfLe|26|\0\x01|36|\x3a|316|\x40\x01
 257 strings|0|0|\x40\x01\0\0LfLe|26|\x01\x01|36|\x3a|316|\x40\x01
@@ -311,25 +240,20 @@ a string up to a zero byte before it|1|0|\0\x01\0\0LfLe\
 }
 
 // S, or T in one of both editions; and the edition that it is read in.
-pub fn in_edition(rt: &impl Print, q: &[u8]) -> io::Result<()> {
+fn in_edition(rt: &impl Print, q: Question<'_>) -> io::Result<()> {
     let e = edition(q, 2);
-    let name = number(q, 1);
-    if name == 0 {
-        refusals_in(rt, e, what(q), &s())?;
-        return Ok(());
+    match q.number::<u32>(1) {
+        0 => refusals_in(rt, e, q.what(), &s()),
+        1 => refusals_in(rt, e, q.what(), &t()),
+        _ => refusals_in(rt, e, q.what(), &unicode_t()),
     }
-    if name == 1 {
-        refusals_in(rt, e, what(q), &t())?;
-        return Ok(());
-    }
-    refusals_in(rt, e, what(q), &unicode_t())
 }
 
 // 0 is S, 1 is T in ANSI, 2 is T in Unicode.
 fn editions(rt: &impl Print) -> io::Result<()> {
     ask(
         rt,
-        Kind::Edition,
+        in_edition,
         b"\
 T in Unicode, read in ANSI|2
 T in Unicode, read in Unicode|2|Unicode

@@ -2,39 +2,36 @@
 // byte is asked for at each place around them. A run of strings is passed by blocks of 16, 64 and 128 bytes, and searched by
 // words: ends are asked for before and after bytes 512 and 640.
 
-use crate::records::part;
-use crate::show::{end, line2, line4, number, start, topic};
-use crate::table::{field, fields, nth32, number32, second, what};
-use crate::{Kind, ask};
+use crate::show::{Answer, end, line, start, topic};
+use crate::table::{Question, ask, each, nth, part, second};
 use format::Edition;
-use runs::{Found, strings_end};
+use runs::strings_end;
 use std::io;
 use stores::put;
-use text::{ansi_len, ansi_word_len, text_len, unicode_len, width};
+use text::{ansi_word_len, name_len, text_len, width};
 
 // A text's length in ANSI and in Unicode, each by both calls.
-pub fn lengths(rt: &impl Print, q: &[u8]) -> io::Result<()> {
-    let t = field(q, 1);
-    line4(
+fn lengths(rt: &impl Print, q: Question<'_>) -> io::Result<()> {
+    let t = q.field(1);
+    line(
         rt,
-        what(q),
-        text_len(Edition::Ansi, t) as u64,
-        ansi_len(t) as u64,
-        text_len(Edition::Unicode, t) as u64,
-        unicode_len(t) as u64,
+        q.what(),
+        (
+            (text_len(Edition::Ansi, t), name_len(Edition::Ansi, t)),
+            (text_len(Edition::Unicode, t), name_len(Edition::Unicode, t)),
+        ),
     )
 }
 
 fn short_texts(rt: &impl Print) -> io::Result<()> {
-    line2(
+    line(
         rt,
         b"bytes of a unit in Unicode and in ANSI",
-        width(Edition::Unicode) as u64,
-        width(Edition::Ansi) as u64,
+        (width(Edition::Unicode), width(Edition::Ansi)),
     )?;
     ask(
         rt,
-        Kind::Lengths,
+        lengths,
         b"\
 the text of no bytes|
 of a zero byte|\0
@@ -49,38 +46,24 @@ of four units, the first 0x8000, the third zero|\0\x80A\0\0\0AA
     )
 }
 
-// The searches.
-#[derive(Clone, Copy)]
-enum Search {
-    Text,
-    Name,
-    Word,
-}
-
-// So many bytes with a zero byte at a place, by a search; with none where the place is not before their end.
-fn found(by: Search, n: usize, at: usize) -> u64 {
-    let mut s = [1u8; 40];
-    put(&mut s, at, b"\0");
-    match by {
-        Search::Text => text_len(Edition::Ansi, part(&s, 0, n)) as u64,
-        Search::Name => ansi_len(part(&s, 0, n)) as u64,
-        Search::Word => ansi_word_len(part(&s, 0, n)) as u64,
-    }
-}
-
-// Its answer with a zero byte at each place, and with none.
-fn zero_at_each_place(rt: &impl Print, by: Search, n: usize) -> io::Result<()> {
+// The answers of a search to so many bytes with a zero byte at each place, and last to those with none.
+fn zero_at_each_place<F: Fn(&[u8]) -> usize>(rt: &impl Print, search: F, n: usize) -> io::Result<()>
+    requires { F.IsAlwaysCallable search }
+{
     start(rt, b"  zero bytes at each place")?;
-    for at in 0..n {
-        number(rt, found(by, n, at))?;
+    for at in 0..=n {
+        let mut s = [1; 40];
+        put(&mut s, at, b"\0");
+        search(part(&s, 0, n)).show(rt)?;
     }
-    number(rt, found(by, n, n))?;
     end(rt)
 }
 
-fn texts_of_each_length(rt: &impl Print, by: Search) -> io::Result<()> {
-    for n in 0..41 {
-        zero_at_each_place(rt, by, n)?;
+fn texts_of_each_length<F: Fn(&[u8]) -> usize>(rt: &impl Print, search: F) -> io::Result<()>
+    requires { F.IsAlwaysCallable search }
+{
+    for n in 0..=40 {
+        zero_at_each_place(rt, &search, n)?;
     }
     Ok(())
 }
@@ -88,31 +71,29 @@ fn texts_of_each_length(rt: &impl Print, by: Search) -> io::Result<()> {
 fn words(rt: &impl Print) -> io::Result<()> {
     start(rt, b"the first word of 0, 7, 8, 9 and 17 bytes")?;
     end(rt)?;
-    zero_at_each_place(rt, Search::Word, 0)?;
-    zero_at_each_place(rt, Search::Word, 7)?;
-    zero_at_each_place(rt, Search::Word, 8)?;
-    zero_at_each_place(rt, Search::Word, 9)?;
-    zero_at_each_place(rt, Search::Word, 17)
+    for n in [0, 7, 8, 9, 17] {
+        zero_at_each_place(rt, ansi_word_len, n)?;
+    }
+    Ok(())
 }
 
 // 300 bytes with a zero byte at a place, by both searches.
-pub fn long_lengths(rt: &impl Print, q: &[u8]) -> io::Result<()> {
-    let mut s = [1u8; 300];
-    put(&mut s, crate::table::number(q, 1), b"\0");
-    line2(
+fn long_lengths(rt: &impl Print, q: Question<'_>) -> io::Result<()> {
+    let mut s = [1; 300];
+    put(&mut s, q.number(1), b"\0");
+    line(
         rt,
-        what(q),
-        text_len(Edition::Ansi, &s) as u64,
-        ansi_len(&s) as u64,
+        q.what(),
+        (text_len(Edition::Ansi, &s), name_len(Edition::Ansi, &s)),
     )
 }
 
 fn long_texts(rt: &impl Print) -> io::Result<()> {
-    texts_of_each_length(rt, Search::Text)?;
-    texts_of_each_length(rt, Search::Name)?;
+    texts_of_each_length(rt, |t| text_len(Edition::Ansi, t))?;
+    texts_of_each_length(rt, |t| name_len(Edition::Ansi, t))?;
     ask(
         rt,
-        Kind::LongLengths,
+        long_lengths,
         b"\
 300 bytes, zero at 30|30
 at 55|55
@@ -131,62 +112,34 @@ nowhere|300
 }
 
 // Where so many strings end; 99 where there are not so many.
-fn end_in(s: &[u8], count: u32) -> u64 {
-    match strings_end(Edition::Ansi, s, count) {
-        Found::At(n) => n as u64,
-        Found::Nothing => 99,
-    }
+fn end_in(s: &[u8], count: u32) -> usize {
+    strings_end(Edition::Ansi, s, count).unwrap_or(99)
 }
 
-// Each field is a number of strings, and bytes.
-pub fn ends_of(rt: &impl Print, q: &[u8]) -> io::Result<()> {
-    start(rt, what(q))?;
-    for k in 0..fields(q) {
-        number(rt, end_of_field(field(q, k + 1)))?;
-    }
-    end(rt)
-}
-
-fn end_of_field(t: &[u8]) -> u64 {
-    end_in(second(t), nth32(t, 0))
-}
-
-// The same of 40 bytes with two zero bytes.
-fn end_of(first: usize, second: usize, count: u32) -> u64 {
-    let mut s = [1u8; 40];
-    put(&mut s, first, b"\0");
-    put(&mut s, second, b"\0");
-    end_in(&s, count)
-}
-
-// A zero byte at a place, and another one at each place; and a number of strings.
-pub fn ends(rt: &impl Print, q: &[u8]) -> io::Result<()> {
-    start(rt, what(q))?;
-    let first = crate::table::number(q, 1);
-    let count = number32(q, 2);
+// A zero byte at a place of 40 bytes, and another one at each place; and a number of strings.
+fn ends(rt: &impl Print, q: Question<'_>) -> io::Result<()> {
+    let first = q.number(1);
+    let count = q.number(2);
+    start(rt, q.what())?;
     for at in 0..40 {
-        number(rt, end_of(first, at, count))?;
+        let mut s = [1; 40];
+        put(&mut s, first, b"\0");
+        put(&mut s, at, b"\0");
+        end_in(&s, count).show(rt)?;
     }
     end(rt)
 }
 
-// Puts these bytes over the others again and again, as often as there is room.
-fn fill(out: &mut [u8], t: &[u8]) {
-    let mut at = 0usize;
-    let mut k = 0usize;
-    while k < 350 {
-        at = put(out, at, t);
-        k += 1;
+// 700 bytes of these strings again and again, as often as there is room, and numbers of strings.
+fn long_ends(rt: &impl Print, q: Question<'_>) -> io::Result<()> {
+    let t = q.field(1);
+    let mut s = [1; 700];
+    for room in s.chunks_exact_mut(t.len().max(1)) {
+        put(room, 0, t);
     }
-}
-
-// 700 bytes of these strings again and again, and numbers of strings.
-pub fn long_ends(rt: &impl Print, q: &[u8]) -> io::Result<()> {
-    let mut s = [1u8; 700];
-    fill(&mut s, field(q, 1));
-    start(rt, what(q))?;
-    for k in 1..fields(q) {
-        number(rt, end_in(&s, number32(q, k + 1)))?;
+    start(rt, q.what())?;
+    for count in q.0.split(|x| *x == b'|').skip(2) {
+        end_in(&s, nth(count, 0)).show(rt)?;
     }
     end(rt)
 }
@@ -194,7 +147,7 @@ pub fn long_ends(rt: &impl Print, q: &[u8]) -> io::Result<()> {
 fn long_runs(rt: &impl Print) -> io::Result<()> {
     ask(
         rt,
-        Kind::LongEnds,
+        long_ends,
         b"\
 strings of 1 in 700 bytes|A\0|256|257|320|321|350|351
 strings of 8 in 700 bytes|ABCDEFGH\0|56|57|71|72|77|78
@@ -206,9 +159,10 @@ ABCDEFGHIJKLMNOP\0ABCDEFGHIJKLMNOPQ\0ABCDEFGHIJKLMNOPQR\0ABCDEFGHIJKLMNOPQRS\0AB
 }
 
 fn strings(rt: &impl Print) -> io::Result<()> {
-    ask(
+    // Each field is a number of strings, and bytes.
+    each(
         rt,
-        Kind::EndsOf,
+        |t| end_in(second(t), nth(t, 0)),
         b"\
 ends of 0 to 4 strings|0,A\0\0BB\0C|1,A\0\0BB\0C|2,A\0\0BB\0C|3,A\0\0BB\0C|4,A\0\0BB\0C
 a string of no bytes, of one, and one that has no end|1,|1,\0|1,ABC
@@ -216,7 +170,7 @@ a string of no bytes, of one, and one that has no end|1,|1,\0|1,ABC
     )?;
     ask(
         rt,
-        Kind::Ends,
+        ends,
         b"\
 one string, a zero byte at 39 and at each place|39|1
 two strings, a zero byte at 0 and at each place|0|2

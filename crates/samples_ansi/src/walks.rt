@@ -1,52 +1,41 @@
 // Walks, and listings.
 
-use crate::records::{log, log_with, part, unicode_log};
-use crate::show::{bytes, line2, line3, line4, topic};
-use crate::table::{edition, number, what};
-use crate::{Kind, ask};
-use format::{Edition, Walked, Written};
+use crate::records::{edition, log, log_with, unicode_log};
+use crate::show::{Hex, line, topic};
+use crate::table::{Question, ask, part};
+use format::{Direction, Edition, Written};
 use std::io;
-use walk::Stop;
 
 fn walks_of(rt: &impl Print, what: &[u8], e: Edition, s: &[u8]) -> io::Result<()> {
-    walked(rt, what, walk::walk(e, s))?;
-    stopped(rt, b"  the front's stop", walk::front(e, s))?;
-    walked(rt, b"  back", walk::walk_back(e, s))?;
-    stopped(rt, b"  the rear's stop", walk::rear(e, s))
-}
-
-fn walked(rt: &impl Print, what: &[u8], w: Walked) -> io::Result<()> {
-    let k = w.refusal;
-    line3(rt, what, w.count as u64, k.number as u64, k.field as u64)
-}
-
-pub fn stopped(rt: &impl Print, what: &[u8], w: Stop) -> io::Result<()> {
-    let k = w.refusal;
-    line4(
+    line(rt, what, walk::walk(e, Direction::Forwards, s))?;
+    line(
         rt,
-        what,
-        w.count as u64,
-        k.number as u64,
-        k.field as u64,
-        w.at as u64,
+        b"  the front's stop",
+        walk::ended(e, Direction::Forwards, s),
+    )?;
+    line(rt, b"  back", walk::walk(e, Direction::Backwards, s))?;
+    line(
+        rt,
+        b"  the rear's stop",
+        walk::ended(e, Direction::Backwards, s),
     )
 }
 
 // The log's bytes from one place up to another, the edition, and what is put over the log.
-pub fn walks(rt: &impl Print, q: &[u8]) -> io::Result<()> {
+fn walks(rt: &impl Print, q: Question<'_>) -> io::Result<()> {
     let log = log_with(q, 4);
     walks_of(
         rt,
-        what(q),
+        q.what(),
         edition(q, 3),
-        part(&log, number(q, 1), number(q, 2)),
+        part(&log, q.number(1), q.number(2)),
     )
 }
 
 fn parts_of_log(rt: &impl Print) -> io::Result<()> {
     ask(
         rt,
-        Kind::Walks,
+        walks,
         b"\
 no bytes|0|0
 S, T, U|0|256
@@ -71,28 +60,23 @@ fn list_into(
 ) -> io::Result<()> {
     let w = listing::listing(e, batch, out);
     show_text(rt, what, w, out)?;
-    bytes(rt, b"  after it", part(out, w.length, out.len()))
+    line(rt, b"  after it", Hex(part(out, w.length, out.len())))
 }
 
 fn show_text(rt: &impl Print, what: &[u8], w: Written, out: &[u8]) -> io::Result<()> {
-    line2(rt, what, w.refusal as u64, w.length as u64)?;
+    line(rt, what, w)?;
     rt.write_all(part(out, 0, w.length))
 }
 
 // The first bytes of the log, the room, and the edition.
-pub fn list(rt: &impl Print, q: &[u8]) -> io::Result<()> {
-    list_in(rt, q, &log(), &mut [0xaau8; 40])
-}
-
-fn list_in(rt: &impl Print, q: &[u8], log: &[u8; 256], out: &mut [u8]) -> io::Result<()> {
-    let room = number(q, 2);
-    if room <= out.len() {
+fn list(rt: &impl Print, q: Question<'_>) -> io::Result<()> {
+    if let Some(out) = [0xaa; 40].get_mut(..q.number(2)) {
         list_into(
             rt,
-            what(q),
+            q.what(),
             edition(q, 3),
-            part(log, 0, number(q, 1)),
-            &mut out[..room],
+            part(&log(), 0, q.number(1)),
+            out,
         )?;
     }
     Ok(())
@@ -101,7 +85,7 @@ fn list_in(rt: &impl Print, q: &[u8], log: &[u8; 256], out: &mut [u8]) -> io::Re
 fn listings(rt: &impl Print) -> io::Result<()> {
     ask(
         rt,
-        Kind::Listing,
+        list,
         b"\
 S, T, U|256|40
 S, T, U, just enough room|256|35
@@ -113,25 +97,19 @@ S, T, U in Unicode|256|40|Unicode
 }
 
 fn listings_of_unicode(rt: &impl Print, log: &[u8; 168]) -> io::Result<()> {
-    list_into(
-        rt,
-        b"S, T of Unicode",
-        Edition::Ansi,
-        log,
-        &mut [0xaau8; 40],
-    )?;
+    list_into(rt, b"S, T of Unicode", Edition::Ansi, log, &mut [0xaa; 40])?;
     list_into(
         rt,
         b"S, T of Unicode in Unicode",
         Edition::Unicode,
         log,
-        &mut [0xaau8; 40],
+        &mut [0xaa; 40],
     )
 }
 
 // What the listing program writes for these bytes: it reads Unicode.
 fn input(rt: &impl Print, what: &[u8], batch: &[u8]) -> io::Result<()> {
-    let mut out = [0xaau8; 40];
+    let mut out = [0xaa; 40];
     let w = listing::input_listing(batch, false, &mut out);
     show_text(rt, what, w, &out)
 }

@@ -1,59 +1,35 @@
 // Writing and appending: the refusal, how much was written or is used, and the output.
 
-use crate::records::{log, numbers, part, s, unicode_t, unnumbered};
-use crate::show::{bytes, line, line2, line3, output, topic};
-use crate::table::{edition, field, find, number, what};
-use crate::{Kind, ask};
-use format::{Appended, Edition, Step, Written};
-use places::measure;
+use crate::records::{edition, log, s, unicode_t};
+use crate::show::{Answer, Hex, line, output, topic};
+use crate::table::{Question, ask};
+use event::Event;
+use format::{Direction, Edition, Fields};
+use places::{Lengths, Places, measure};
 use std::io;
 use stores::put;
 
-// The event of a question: its numbers, source, computer, SID, strings and data.
-fn write(q: &[u8], out: &mut [u8]) -> Written {
-    writer::write(
-        Edition::Ansi,
-        numbers(field(q, 1)),
-        field(q, 2),
-        field(q, 3),
-        field(q, 4),
-        field(q, 5),
-        field(q, 6),
-        out,
-    )
-}
-
-fn refusal(e: Edition, q: &[u8]) -> u32 {
-    let c = event::check(
-        e,
-        numbers(field(q, 1)),
-        field(q, 2),
-        field(q, 3),
-        field(q, 4),
-        field(q, 5),
-        field(q, 6),
-    );
-    c.refusal
+// The number of an event's refusal, 0 for none.
+fn refusal(e: Edition, event: &Event<'_, Fields>) -> u32 {
+    match event::check(e, event) {
+        Ok(_) => 0,
+        Err(k) => k.number(),
+    }
 }
 
 // Into a buffer of 104 bytes.
-pub fn record(rt: &impl Print, q: &[u8]) -> io::Result<()> {
-    let mut out = [0xaau8; 104];
-    let w = write(q, &mut out);
-    line3(
-        rt,
-        what(q),
-        w.refusal as u64,
-        w.length as u64,
-        refusal(Edition::Ansi, q) as u64,
-    )?;
+fn record(rt: &impl Print, q: Question<'_>) -> io::Result<()> {
+    let mut out = [0xaa; 104];
+    let event = q.event(1);
+    let w = writer::write(Edition::Ansi, &event, &mut out);
+    line(rt, q.what(), (w, refusal(Edition::Ansi, &event)))?;
     output(rt, &out)
 }
 
 fn records(rt: &impl Print) -> io::Result<()> {
     ask(
         rt,
-        Kind::Record,
+        record,
         b"\
 S|7
 T|8,0,1|Scale|T1|\x01\x01\0\0\0\0\0\0\0\0\0\0|OK\0|\0\0\0
@@ -63,19 +39,25 @@ U|9,4,3,32768,1001,1002,1003,7|Pans|K|\x01\x02\0\0\0\0\0\x05\x15\0\0\0\x20\x02\0
 }
 
 // The refusals of an event in ANSI and in Unicode.
-pub fn refusals(rt: &impl Print, q: &[u8]) -> io::Result<()> {
-    line2(
+fn refusals(rt: &impl Print, q: Question<'_>) -> io::Result<()> {
+    in_both(rt, q.what(), &q.event(1))
+}
+
+fn in_both(rt: &impl Print, what: &[u8], event: &Event<'_, Fields>) -> io::Result<()> {
+    line(
         rt,
-        what(q),
-        refusal(Edition::Ansi, q) as u64,
-        refusal(Edition::Unicode, q) as u64,
+        what,
+        (
+            refusal(Edition::Ansi, event),
+            refusal(Edition::Unicode, event),
+        ),
     )
 }
 
 fn events(rt: &impl Print) -> io::Result<()> {
     ask(
         rt,
-        Kind::Refusals,
+        refusals,
         b"\
 names of no bytes|7
 names of 1 and 3 bytes|7|A|ABC
@@ -106,69 +88,50 @@ a SID of 7 bytes|7,0,1|||\x01\0\0\0\0\0\0
 }
 
 // An event with no parts but data.
-fn data_refusal(e: Edition, event_data: &[u8]) -> u64 {
-    let none: &[u8] = b"";
-    let c = event::check(e, numbers(b"7"), none, none, none, none, event_data);
-    c.refusal as u64
-}
-
 fn most_data(rt: &impl Print, event_data: &[u8; 61441]) -> io::Result<()> {
-    line2(
-        rt,
-        b"61441 bytes of data",
-        data_refusal(Edition::Ansi, event_data),
-        data_refusal(Edition::Unicode, event_data),
-    )
+    let event = Event {
+        event_data,
+        ..Question(b"7").event(0)
+    };
+    in_both(rt, b"61441 bytes of data", &event)
 }
 
 // An event into so much room, which its last field says.
-pub fn room(rt: &impl Print, q: &[u8]) -> io::Result<()> {
-    room_in(rt, q, &mut [0xaau8; 70])
-}
-
-fn room_in(rt: &impl Print, q: &[u8], out: &mut [u8]) -> io::Result<()> {
-    let n = number(q, 7);
-    if n <= out.len() {
-        room_of(rt, q, &mut out[..n])?;
+fn room(rt: &impl Print, q: Question<'_>) -> io::Result<()> {
+    if let Some(out) = [0xaa; 70].get_mut(..q.number(7)) {
+        line(rt, q.what(), writer::write(Edition::Ansi, &q.event(1), out))?;
+        output(rt, out)?;
     }
     Ok(())
 }
 
-fn room_of(rt: &impl Print, q: &[u8], out: &mut [u8]) -> io::Result<()> {
-    let w = write(q, out);
-    line2(rt, what(q), w.refusal as u64, w.length as u64)?;
-    output(rt, out)
+impl Answer for Places {
+    fn show(&self, rt: &impl Print) -> io::Result<()> {
+        (self.gap, self.sid, self.strings).show(rt)?;
+        (self.event_data, self.end_gap, self.length).show(rt)
+    }
 }
 
 // The edition and five lengths: the gap after the names, the places of SID, strings and data, the gap before Length2, and
-// the Length.
-pub fn places(rt: &impl Print, q: &[u8]) -> io::Result<()> {
-    let p = measure(
-        edition(q, 1),
-        number(q, 2),
-        number(q, 3),
-        number(q, 4),
-        number(q, 5),
-        number(q, 6),
-    );
-    line(
-        rt,
-        what(q),
-        &[
-            p.gap as u64,
-            p.sid as u64,
-            p.strings as u64,
-            p.event_data as u64,
-            p.end_gap as u64,
-            p.length as u64,
-        ],
-    )
+// the Length; zeros where a record would be too long.
+fn places(rt: &impl Print, q: Question<'_>) -> io::Result<()> {
+    let lengths = Lengths {
+        source_name: q.number(2),
+        computer_name: q.number(3),
+        sid: q.number(4),
+        strings: q.number(5),
+        event_data: q.number(6),
+    };
+    match measure(edition(q, 1), lengths) {
+        Some(p) => line(rt, q.what(), p),
+        None => line(rt, q.what(), ((0u32, 0u32, 0u32), (0u32, 0u32, 0u32))),
+    }
 }
 
 fn measures(rt: &impl Print) -> io::Result<()> {
     ask(
         rt,
-        Kind::Room,
+        room,
         b"\
 64 bytes into 64|7|AB|||||64
 64 bytes into 63|7|AB|||||63
@@ -177,7 +140,7 @@ fn measures(rt: &impl Print) -> io::Result<()> {
     )?;
     ask(
         rt,
-        Kind::Places,
+        places,
         b"\
 places of S||0|0|0|0|0
 places of S in Unicode|Unicode|0|0|0|0|0
@@ -194,56 +157,31 @@ a name as long as a number can be||18446744073709551615|0|0|0|0
 
 // The fields: how much of the log is used; the numbers, source, computer, SID, strings and data; the edition; the place
 // where the last record ends then, if it is shown.
-fn append_to(q: &[u8], log: &mut [u8]) -> Appended {
-    append::append(
-        edition(q, 8),
-        log,
-        number(q, 1),
-        unnumbered(field(q, 2)),
-        field(q, 3),
-        field(q, 4),
-        field(q, 5),
-        field(q, 6),
-        field(q, 7),
-    )
+fn append_one(rt: &impl Print, q: Question<'_>, log: &mut [u8]) -> io::Result<()> {
+    let a = append::append(edition(q, 8), log, q.number(1), &q.unnumbered(2));
+    line(rt, q.what(), a)?;
+    match q.number(9) {
+        0 => Ok(()),
+        end => last(rt, log, end),
+    }
 }
 
-fn append_one(rt: &impl Print, q: &[u8], log: &mut [u8]) -> io::Result<()> {
-    let a = append_to(q, log);
-    let k = a.refusal;
-    line3(rt, what(q), k.number as u64, k.field as u64, a.used as u64)?;
-    if number(q, 9) > 0 {
-        last(rt, log, number(q, 9))?;
+// The number and the start of the record that ends at a place.
+fn last(rt: &impl Print, log: &[u8], end: usize) -> io::Result<()> {
+    match record::step(Edition::Ansi, Direction::Backwards, log, end) {
+        Ok(a) => line(
+            rt,
+            b"  the last record's number and start",
+            (a.fields.record_number, a.start),
+        ),
+        Err(x) => line(rt, b"  refused", (x.refusal.number, x.at)),
     }
-    Ok(())
 }
 
 // Each line of a table, to one log, which begins with a record.
 fn append_all(rt: &impl Print, first: &[u8], table: &[u8], log: &mut [u8]) -> io::Result<()> {
     put(log, 0, first);
-    let mut at = 0usize;
-    while at < table.len() {
-        let end = find(table, at, b'\n');
-        if end >= table.len() {
-            return Ok(());
-        }
-        append_one(rt, part(table, at, end), log)?;
-        at = end + 1;
-    }
-    Ok(())
-}
-
-// The number and the start of the record that ends at a place.
-fn last(rt: &impl Print, log: &[u8], end: usize) -> io::Result<()> {
-    match record::step_back(Edition::Ansi, log, end) {
-        Step::Found(a) => line2(
-            rt,
-            b"  the last record's number and start",
-            a.fields.record_number as u64,
-            a.start as u64,
-        ),
-        Step::Refused { refusal: k, at: p } => line2(rt, b"  refused", k.number as u64, p as u64),
-    }
+    ask(rt, |rt, q| append_one(rt, q, log), table)
 }
 
 fn grow(rt: &impl Print, log: &mut [u8]) -> io::Result<()> {
@@ -256,16 +194,16 @@ a record with a name of 3 bytes after it|156||ABC||||||224
 ",
         log,
     )?;
-    bytes(rt, b"  the log", log)
+    line(rt, b"  the log", Hex(log))
 }
 
 fn first_record(rt: &impl Print, log: &mut [u8]) -> io::Result<()> {
     append_one(
         rt,
-        b"T to an empty log|0|,0,1|Scale|T1|\x01\x01\0\0\0\0\0\0\0\0\0\0|OK\0|\0\0\0",
+        Question(b"T to an empty log|0|,0,1|Scale|T1|\x01\x01\0\0\0\0\0\0\0\0\0\0|OK\0|\0\0\0"),
         log,
     )?;
-    bytes(rt, b"  the log", log)
+    line(rt, b"  the log", Hex(log))
 }
 
 fn no_room(rt: &impl Print, log: &mut [u8]) -> io::Result<()> {
@@ -281,7 +219,7 @@ used past the buffer|156|,0,1|Scale|T1|\x01\x01\0\0\0\0\0\0\0\0\0\0|OK\0|\0\0\0|
 ",
         log,
     )?;
-    bytes(rt, b"  the log", log)
+    line(rt, b"  the log", Hex(log))
 }
 
 // Behind a record of the other edition.
@@ -293,7 +231,7 @@ fn other_edition(rt: &impl Print) -> io::Result<()> {
 behind T of Unicode, in ANSI|104
 behind T of Unicode, in Unicode|104|||||||Unicode
 ",
-        &mut [0xaau8; 200],
+        &mut [0xaa; 200],
     )?;
     append_all(
         rt,
@@ -302,7 +240,7 @@ behind T of Unicode, in Unicode|104|||||||Unicode
 behind U of ANSI, in Unicode|256|||||||Unicode
 behind U of ANSI, in ANSI|256||||||||320
 ",
-        &mut [0xaau8; 320],
+        &mut [0xaa; 320],
     )
 }
 
@@ -310,11 +248,11 @@ pub fn writing(rt: &impl Print) -> io::Result<()> {
     topic(rt, b"writing")?;
     records(rt)?;
     events(rt)?;
-    most_data(rt, &[0u8; 61441])?;
+    most_data(rt, &[0; 61441])?;
     measures(rt)?;
     topic(rt, b"appending")?;
-    grow(rt, &mut [0xaau8; 230])?;
-    first_record(rt, &mut [0xaau8; 96])?;
-    no_room(rt, &mut [0xaau8; 155])?;
+    grow(rt, &mut [0xaa; 230])?;
+    first_record(rt, &mut [0xaa; 96])?;
+    no_room(rt, &mut [0xaa; 155])?;
     other_edition(rt)
 }

@@ -5,9 +5,6 @@
 
 #![tactic(auto)]
 
-mod show;
-
-use crate::show::{bytes, line};
 use eventlog_serving::{eventlog_fresh, eventlog_read, eventlog_types_count};
 use format::Edition;
 use serve::{Handle, Place};
@@ -15,7 +12,7 @@ use std::io;
 use stores::put;
 
 fn record(number: u8, kind: u8) -> [u8; 64] {
-    let mut r = [0u8; 64];
+    let mut r = [0; 64];
     put(&mut r, 0, b"\x40\0\0\0LfLe");
     put(&mut r, 60, b"\x40");
     r[8] = number;
@@ -24,7 +21,7 @@ fn record(number: u8, kind: u8) -> [u8; 64] {
 }
 
 fn log() -> [u8; 288] {
-    let mut r = [0u8; 288];
+    let mut r = [0; 288];
     put(&mut r, 0, &record(7, 4));
     put(&mut r, 64, &record(8, 0));
     put(&mut r, 128, &record(9, 16));
@@ -34,7 +31,7 @@ fn log() -> [u8; 288] {
 
 // Two records of type 4, and between them one of type 0 that is longer.
 fn long_between() -> [u8; 196] {
-    let mut r = [0u8; 196];
+    let mut r = [0; 196];
     put(&mut r, 0, &record(7, 4));
     put(&mut r, 64, b"\x44\0\0\0LfLe\x08");
     put(&mut r, 128, b"\x44");
@@ -42,245 +39,163 @@ fn long_between() -> [u8; 196] {
     r
 }
 
-fn place_from(at: usize) -> Place {
-    if at == 1000 {
-        return Place::Fresh;
-    }
-    Place::Boundary(at)
-}
-
-fn at_of(place: Place) -> u64 {
+fn at_of(place: Place) -> usize {
     match place {
         Place::Fresh => 1000,
-        Place::Boundary(b) => b as u64,
+        Place::Boundary(b) => b,
     }
 }
 
-// A read, and then nine bytes of its output.
-fn read(
-    rt: &impl Print,
-    log: &[u8],
-    at: usize,
-    types: u32,
+// Nine bytes of a read's output.
+fn show_output(rt: &impl Print, out: &[u8]) -> io::Result<()> {
+    print!(rt; "  output:")?;
+    for at in [0, 8, 64, 72, 128, 136, 192, 200, 256] {
+        if let Some(x) = out.get(at) {
+            print!(rt; " {x:02x}")?;
+        }
+    }
+    println!(rt)
+}
+
+// Where a handle stands, and what is asked of it: flags and number.
+#[derive(Clone, Copy)]
+struct Asked {
+    place: Place,
     flags: u32,
     number: u32,
-    size: usize,
-) -> io::Result<()> {
-    let mut out = [0xaau8; 300];
+}
+
+// A read, and then its output.
+fn read(rt: &impl Print, log: &[u8], asked: Asked, types: u32, size: usize) -> io::Result<()> {
+    let mut out = [0xaa; 300];
     let h = Handle {
-        place: place_from(at),
-        types: types,
+        place: asked.place,
+        types,
     };
-    let a = h.read(Edition::Unicode, log, flags, number, size, &mut out);
-    let next = a.handle;
-    let place = next.place;
-    line(
-        rt,
-        b"read",
-        &[
-            log.len() as u64,
-            at as u64,
-            types as u64,
-            flags as u64,
-            number as u64,
-            size as u64,
-            a.status as u64,
-            a.read as u64,
-            a.needed as u64,
-            at_of(place),
-            next.types as u64,
-        ],
-    )?;
-    shown(rt, &out)
+    let a = h.read(
+        Edition::Unicode,
+        log,
+        asked.flags,
+        asked.number,
+        size,
+        &mut out,
+    );
+    print!(rt; "read: {} {} {types}", log.len(), at_of(asked.place))?;
+    print!(rt; " {} {} {size}", asked.flags, asked.number)?;
+    print!(rt; " {} {} {}", a.status, a.read, a.needed)?;
+    println!(rt; " {} {}", at_of(a.handle.place), a.handle.types)?;
+    show_output(rt, &out)
 }
 
-fn shown(rt: &impl Print, out: &[u8; 300]) -> io::Result<()> {
-    bytes(
-        rt,
-        b"  output",
-        &[
-            out[0], out[8], out[64], out[72], out[128], out[136], out[192], out[200], out[256],
-        ],
-    )
-}
-
-fn sizes(
-    rt: &impl Print,
-    log: &[u8],
-    at: usize,
-    types: u32,
-    flags: u32,
-    number: u32,
-    sizes: &[usize],
-) -> io::Result<()> {
-    for size in sizes {
-        read(rt, log, at, types, flags, number, *size)?;
-    }
-    Ok(())
-}
-
-fn four(
-    rt: &impl Print,
-    log: &[u8],
-    at: usize,
-    types: u32,
-    flags: u32,
-    number: u32,
-) -> io::Result<()> {
-    sizes(rt, log, at, types, flags, number, &[63, 64, 128, 300])
-}
-
-fn sets(
-    rt: &impl Print,
-    log: &[u8],
-    at: usize,
-    flags: u32,
-    number: u32,
-    sets: &[u32],
-) -> io::Result<()> {
-    for set in sets {
-        four(rt, log, at, *set, flags, number)?;
+// Reads of the types of each set, of four sizes.
+fn reads(rt: &impl Print, log: &[u8], asked: Asked, sets: &[u32]) -> io::Result<()> {
+    for types in sets {
+        for size in [63, 64, 128, 300] {
+            read(rt, log, asked, *types, size)?;
+        }
     }
     Ok(())
 }
 
 // All sets, with a fresh handle.
-fn fresh(rt: &impl Print, log: &[u8], flags: u32, number: u32) -> io::Result<()> {
-    sets(
-        rt,
-        log,
-        1000,
-        flags,
-        number,
-        &[63, 4, 32, 16, 0, 64, 68, 4294967295],
-    )
-}
-
-// Some, from a boundary.
-fn onward(rt: &impl Print, log: &[u8], at: usize) -> io::Result<()> {
-    sets(rt, log, at, 5, 0, &[63, 4, 32])?;
-    sets(rt, log, at, 9, 0, &[63, 4, 32])?;
-    sets(rt, log, at, 6, 9, &[4, 64])
-}
-
-fn flag(b: bool) -> u64 {
-    if b {
-        return 1;
-    }
-    0
-}
-
-fn want(rt: &impl Print, set: u32, x: u16) -> io::Result<()> {
-    line(
-        rt,
-        b"wants",
-        &[set as u64, x as u64, flag(event_types::wants(set, x))],
-    )
-}
-
-fn wants(rt: &impl Print, set: u32, types: &[u16]) -> io::Result<()> {
-    for x in types {
-        want(rt, set, *x)?;
+fn fresh(rt: &impl Print, log: &[u8]) -> io::Result<()> {
+    for (flags, number) in [(5, 0), (9, 0), (6, 8), (10, 9), (6, 11), (7, 0)] {
+        let asked = Asked {
+            place: Place::Fresh,
+            flags,
+            number,
+        };
+        reads(rt, log, asked, &[63, 4, 32, 16, 0, 64, 68, 4294967295])?;
     }
     Ok(())
 }
 
+// Some, from a boundary.
+fn onward(rt: &impl Print, log: &[u8], place: Place) -> io::Result<()> {
+    for flags in [5, 9] {
+        let asked = Asked {
+            place,
+            flags,
+            number: 0,
+        };
+        reads(rt, log, asked, &[63, 4, 32])?;
+    }
+    let seek = Asked {
+        place,
+        flags: 6,
+        number: 9,
+    };
+    reads(rt, log, seek, &[4, 64])
+}
+
+fn boundaries(rt: &impl Print, log: &[u8]) -> io::Result<()> {
+    for at in [0, 64, 192, 256, 400] {
+        onward(rt, log, Place::Boundary(at))?;
+    }
+    Ok(())
+}
+
+// Which of some types a set holds.
 fn set(rt: &impl Print, set: u32) -> io::Result<()> {
-    line(
-        rt,
-        b"set",
-        &[
-            set as u64,
-            event_types::count(set) as u64,
-            eventlog_types_count(set) as u64,
-            flag(event_types::is_set(set)),
-        ],
-    )?;
-    wants(rt, set, &[0, 1, 2, 3, 4, 8, 16, 32, 64, 65535])
+    let c = eventlog_types_count(set);
+    let is_set = u32::from(event_types::is_set(set));
+    println!(rt; "set: {set} {} {c} {is_set}", event_types::count(set))?;
+    for x in [0, 1, 2, 3, 4, 8, 16, 32, 64, 65535] {
+        let wants = u32::from(event_types::wants(set, x));
+        println!(rt; "wants: {set} {x} {wants}")?;
+    }
+    Ok(())
 }
 
 fn handles(rt: &impl Print) -> io::Result<()> {
     let h = Handle::fresh(4);
-    let place = h.place;
-    line(rt, b"fresh", &[at_of(place), h.types as u64])?;
+    println!(rt; "fresh: {} {}", at_of(h.place), h.types)?;
     let c = eventlog_fresh(70);
-    line(
-        rt,
-        b"fresh",
-        &[c.kind as u64, c.types as u64, c.boundary as u64],
-    )
+    println!(rt; "fresh: {} {} {}", c.kind, c.types, c.boundary)
 }
 
 // The same across the border to C: a read that succeeds, and one that is refused.
 fn border(rt: &impl Print, log: &[u8], types: u32, size: usize) -> io::Result<()> {
-    let mut out = [0xaau8; 300];
-    let h = eventlog_fresh(types);
-    let a = eventlog_read(0, h, log, 5, 0, size, &mut out);
+    let mut out = [0xaa; 300];
+    let a = eventlog_read(0, eventlog_fresh(types), log, 5, 0, size, &mut out);
     let next = a.handle;
-    line(
-        rt,
-        b"border",
-        &[
-            types as u64,
-            size as u64,
-            a.status as u64,
-            a.read as u64,
-            a.needed as u64,
-            next.kind as u64,
-            next.types as u64,
-            next.boundary as u64,
-        ],
+    print!(rt;
+        "border: {types} {size} {} {} {}",
+        a.status, a.read, a.needed
     )?;
-    shown(rt, &out)
-}
-
-fn reads(rt: &impl Print, log: &[u8]) -> io::Result<()> {
-    fresh(rt, log, 5, 0)?;
-    fresh(rt, log, 9, 0)?;
-    fresh(rt, log, 6, 8)?;
-    fresh(rt, log, 10, 9)?;
-    fresh(rt, log, 6, 11)?;
-    fresh(rt, log, 7, 0)
-}
-
-fn boundaries(rt: &impl Print, log: &[u8]) -> io::Result<()> {
-    onward(rt, log, 0)?;
-    onward(rt, log, 64)?;
-    onward(rt, log, 192)?;
-    onward(rt, log, 256)?;
-    onward(rt, log, 400)
+    println!(rt; " {} {} {}", next.kind, next.types, next.boundary)?;
+    show_output(rt, &out)
 }
 
 // An unwanted record is skipped, also where it does not fit into what is left of the output.
 fn skips(rt: &impl Print) -> io::Result<()> {
     let s = long_between();
-    read(rt, &s, 1000, 4, 5, 0, 128)?;
-    read(rt, &s, 1000, 4, 9, 0, 128)?;
-    read(rt, &s, 1000, 63, 5, 0, 128)
+    for (types, flags) in [(4, 5), (4, 9), (63, 5)] {
+        let asked = Asked {
+            place: Place::Fresh,
+            flags,
+            number: 0,
+        };
+        read(rt, &s, asked, types, 128)?;
+    }
+    Ok(())
 }
 
-// The bytes up to a place, none where they are not there.
-fn part(s: &[u8], to: usize) -> &[u8] {
-    if to <= s.len() {
-        return &s[0..to];
-    }
-    &s[..0]
+// The log without and with the half record behind it.
+fn both_logs(rt: &impl Print, log: &[u8; 288]) -> io::Result<()> {
+    let records = &log[..256];
+    fresh(rt, records)?;
+    fresh(rt, log)?;
+    boundaries(rt, records)?;
+    border(rt, log, 4, 64)?;
+    border(rt, log, 32, 63)
 }
 
 fn main(rt: HostRuntime) -> io::Result<()> {
     handles(&rt)?;
-    set(&rt, 0)?;
-    set(&rt, 1)?;
-    set(&rt, 32)?;
-    set(&rt, 33)?;
-    set(&rt, 63)?;
-    set(&rt, 64)?;
-    set(&rt, 4294967295)?;
-    let s = log();
-    reads(&rt, part(&s, 256))?;
-    reads(&rt, &s)?;
-    boundaries(&rt, part(&s, 256))?;
-    border(&rt, &s, 4, 64)?;
-    border(&rt, &s, 32, 63)?;
+    for types in [0, 1, 32, 33, 63, 64, 4294967295] {
+        set(&rt, types)?;
+    }
+    both_logs(&rt, &log())?;
     skips(&rt)
 }

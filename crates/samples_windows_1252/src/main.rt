@@ -22,9 +22,7 @@ fn show(rt: &impl Print, bytes: &[u8]) -> io::Result<()> {
 fn answer(rt: &impl Print, what: &[u8], w: Written, out: &[u8]) -> io::Result<()> {
     rt.write_all(what)?;
     rt.write_all(b": ")?;
-    rt.print(w.refusal as u64)?;
-    rt.write_all(b" ")?;
-    rt.print(w.length as u64)?;
+    print!(rt; "{} {}", w.refusal, w.length)?;
     show(rt, out)?;
     rt.write_all(b"\n")
 }
@@ -70,10 +68,8 @@ fn refusals(rt: &impl Print) -> io::Result<()> {
 }
 
 fn count_up(bytes: &mut [u8]) {
-    let mut i = 0;
-    while i < bytes.len() {
-        bytes[i] = (i % 256) as u8;
-        i += 1;
+    for (i, x) in bytes.iter_mut().enumerate() {
+        *x = (i % 256) as u8;
     }
 }
 
@@ -91,19 +87,16 @@ fn whole_table(
     answer(rt, b"all units", w, back)
 }
 
-fn some(n: u8) -> [u8; 256] {
-    [n; 256]
-}
-
-fn twice(n: u8) -> [u8; 512] {
-    [n; 512]
+// N bytes of one value.
+fn filled<const N: usize>(x: u8) -> [u8; N] {
+    [x; N]
 }
 
 fn main(rt: HostRuntime) -> io::Result<()> {
     texts(&rt)?;
     refusals(&rt)?;
-    let mut bytes = some(0);
-    let mut units = twice(7);
-    let mut back = some(7);
+    let mut bytes = filled::<256>(0);
+    let mut units = filled::<512>(7);
+    let mut back = filled::<256>(7);
     whole_table(&rt, &mut bytes, &mut units, &mut back)
 }

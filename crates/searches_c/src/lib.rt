@@ -5,7 +5,7 @@
 ghost use Rattle.std.specs.Prelude.{◌≡◌, ◌/◌, ◌*◌, length};
 ghost use Rattle.format.specs.Text.{scan, run};
 ghost use Rattle.runs.specs.Answers.{end_of};
-ghost use Rattle.searches.specs.Places.{place_or0};
+ghost use Rattle.std.specs.Option.{unwrap_or};
 
 #[unsafe(no_mangle)]
 pub extern "C" fn searches_text_len(t: &[u8]) -> usize
@@ -16,7 +16,7 @@ pub extern "C" fn searches_text_len(t: &[u8]) -> usize
 
 #[unsafe(no_mangle)]
 pub extern "C" fn searches_strings_end(t: &[u8], count: u32) -> usize
-    ensures { result ≡ place_or0 (end_of 2 (run 2 count (length t.now / 2) t.now) (length t.now / 2)) }
+    ensures { result ≡ unwrap_or (end_of 2 (run 2 count (length t.now / 2) t.now) (length t.now / 2)) 0 }
 {
     searches::searches_strings_end(t, count)
 }
@@ -30,7 +30,7 @@ pub extern "C" fn searches_text_len_by_unit(t: &[u8]) -> usize
 
 #[unsafe(no_mangle)]
 pub extern "C" fn searches_strings_end_by_unit(t: &[u8], count: u32) -> usize
-    ensures { result ≡ place_or0 (end_of 2 (run 2 count (length t.now / 2) t.now) (length t.now / 2)) }
+    ensures { result ≡ unwrap_or (end_of 2 (run 2 count (length t.now / 2) t.now) (length t.now / 2)) 0 }
 {
     searches::searches_strings_end_by_unit(t, count)
 }

@@ -5,7 +5,7 @@
 ghost use Rattle.std.specs.Prelude.{◌≡◌};
 ghost use Rattle.stepped.specs.Steps.{stepped};
 
-use format::{Record, Refusal, Step};
+use format::{NO_REFUSAL, Record, Refusal, Refused};
 
 // What a step answers: the refusal, number and field 0 for none, and the place that was asked for; and the
 // record, all 0 where it is refused.
@@ -17,20 +17,18 @@ pub struct Stepped {
     pub found: Record,
 }
 
-pub fn stepped_of(x: Step, at: usize) -> Stepped
+// It takes the place beside the answer, which has it only where it refuses: so this is a function and no From.
+pub fn stepped_of(x: Result<Record, Refused>, at: usize) -> Stepped
     ensures { result ≡ stepped x at }
 {
     match x {
-        Step::Found(a) => Stepped {
-            refusal: Refusal {
-                number: 0,
-                field: 0,
-            },
+        Ok(a) => Stepped {
+            refusal: NO_REFUSAL,
             at: at,
             found: a,
         },
-        Step::Refused { refusal: k, at: _ } => Stepped {
-            refusal: k,
+        Err(k) => Stepped {
+            refusal: k.refusal,
             at: at,
             found: parts::nothing(),
         },

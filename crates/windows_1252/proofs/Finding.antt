@@ -1,6 +1,6 @@
 -- The byte of a unit without a search, and the test of all units.
 -- Assumes nothing.
-use mathlib.Core.Path.{◌≡◌, refl, sym, ap, ap₂, ◌∙◌}
+use mathlib.Core.Path.{◌≡◌, refl, sym, ap, ◌∙◌}
 use mathlib.Core.Bool.{Bool, true, false, cond, ◌&&◌, ◌||◌}
 use mathlib.Core.Logic.{⊎_elim}
 use mathlib.Core.List.{List}
@@ -11,13 +11,48 @@ use lib.ListN.{length, get_or, drop, drop_of_length-le}
 use lib.Seq.{drop-cons}
 use lib.Dec.{eqb, leb}
 use borrow.Author.Tests.{eqb-true, lt-ltb, le-ltb}
+use Rattle.std.specs.Prelude.{Option, Some, None}
+use Rattle.std.specs.Option.{is_some}
 use Rattle.format.specs.Good.{member}
 use Rattle.format.proofs.Laws.Tests.{eqb_means, leb_means, or_means}
 use Rattle.windows_1252_table.specs.Table.{table, unit_of, byte_of}
 use Rattle.windows_1252_table.specs.Utf16.{units_in, all_in_table}
-use Rattle.windows_1252.specs.Code.{candidate_bytes, candidate_of}
+use Rattle.windows_1252.specs.Code.{candidate_bytes, candidate_of, byte_in}
 use Rattle.windows_1252_table.proofs.Laws.Table.{every, every_at, table_long, byte_of_unit, unit_of_byte, byte_small, byte_missing}
 use Rattle.windows_1252_table.proofs.Laws.Utf16.{length_units}
+
+-- which units are in the table
+outside : (u : ℕ) → byte_of u ≡ 256 → member u table ≡ false
+outside u e = go (member u table) refl
+  where
+    go : (t : Bool) → member u table ≡ t → member u table ≡ false
+    go true m = absurd (omega (arith, e, byte_small u m))
+    go false m = m
+
+inside : (u : ℕ) → byte_of u < 256 → member u table ≡ true
+inside u h = go (member u table) refl
+  where
+    go : (t : Bool) → member u table ≡ t → member u table ≡ true
+    go true m = m
+    go false m = absurd (omega (arith, h, byte_missing u m))
+
+-- a byte that is found, and none
+pub found : (u : ℕ) {b : ℕ} → b < 256 → b ≡ byte_of u → Some b ≡ byte_in u
+unfolding byte_in
+found u {b} h e =
+    ap Some e ∙ ap (λ t. cond t (Some (byte_of u)) None) (sym (inside u (omega (arith, h, e))))
+
+pub some_byte : (u : ℕ) → is_some (byte_in u) ≡ member u table
+unfolding byte_in
+some_byte u = go (member u table)
+  where
+    go : (t : Bool) → is_some (cond t (Some (byte_of u)) None) ≡ t
+    go true = refl
+    go false = refl
+
+pub missing : (u : ℕ) → 256 ≡ byte_of u → None ≡ byte_in u
+unfolding byte_in
+missing u e = ap (λ t. cond t (Some (byte_of u)) None) (sym (outside u (sym e)))
 
 -- ---- units below 128
 
@@ -35,8 +70,9 @@ low_unit b h =
     ((or_means (leb_means 128 b) (eqb_means (get_or table b 0) b)).holds (every_at low table table_low b (omega (arith, table_long))))
 
 -- they are their own bytes
-pub byte_low : (u : ℕ) → u < 128 → u ≡ byte_of u
-byte_low u h = sym (ap byte_of (sym (low_unit u h)) ∙ byte_of_unit u (omega (arith, h)))
+pub byte_low : (u : ℕ) → u < 128 → Some u ≡ byte_in u
+byte_low u h =
+    found u (omega (arith, h)) (sym (ap byte_of (sym (low_unit u h)) ∙ byte_of_unit u (omega (arith, h))))
 
 -- ---- candidates
 
@@ -65,41 +101,21 @@ candidate_of_unit b h =
     eqb-true (candidate_of (get_or table b 0)) b (every_at right table table_right b (omega (arith, table_long)))
 
 -- so a unit that is its candidate's has that byte, and no other unit has one
-module _ (us : List ℕ) (e : us ≡ table) (u : ℕ) {b : ℕ} (same : b ≡ candidate_of u) where
-  candidate_unit : get_or us b 0 ≡ unit_of (candidate_of u)
-  unfolding unit_of
-  candidate_unit = ap₂ (λ (t : List ℕ) (k : ℕ). get_or t k 0) e same
+module _ (u : ℕ) {b : ℕ} (same : b ≡ candidate_of u) where
+  pub candidate_found : b < 256 → unit_of b ≡ u → Some b ≡ byte_in u
+  candidate_found h f = found u h (sym (ap byte_of (sym f) ∙ byte_of_unit b (omega (arith, h))))
 
-  pub candidate_found : b < 256 → get_or us b 0 ≡ u → b ≡ byte_of u
-  candidate_found h f =
-      same ∙ sym (ap byte_of (sym f ∙ candidate_unit) ∙ byte_of_unit (candidate_of u) (omega (arith, h, same)))
-
-  pub candidate_missing : (get_or us b 0 ≡ u → ⊥) → 256 ≡ byte_of u
-  candidate_missing f = go (member u table) refl
+  pub candidate_missing : (unit_of b ≡ u → ⊥) → None ≡ byte_in u
+  candidate_missing f = missing u (go (member u table) refl)
     where
       go : (t : Bool) → member u table ≡ t → 256 ≡ byte_of u
       go true m =
           let back : unit_of (byte_of u) ≡ u = unit_of_byte u m in
-          let found : candidate_of u ≡ byte_of u = ap candidate_of (sym back) ∙ candidate_of_unit (byte_of u) (byte_small u m) in
-          absurd (f (candidate_unit ∙ ap unit_of found ∙ back))
+          let at : candidate_of u ≡ byte_of u = ap candidate_of (sym back) ∙ candidate_of_unit (byte_of u) (byte_small u m) in
+          absurd (f (ap unit_of (same ∙ at) ∙ back))
       go false m = sym (byte_missing u m)
 
 -- ---- all units of some bytes
-
--- which units are in the table
-outside : (u : ℕ) → byte_of u ≡ 256 → member u table ≡ false
-outside u e = go (member u table) refl
-  where
-    go : (t : Bool) → member u table ≡ t → member u table ≡ false
-    go true m = absurd (omega (arith, e, byte_small u m))
-    go false m = m
-
-inside : (u : ℕ) → (byte_of u ≡ 256 → ⊥) → member u table ≡ true
-inside u f = go (member u table) refl
-  where
-    go : (t : Bool) → member u table ≡ t → member u table ≡ true
-    go true m = m
-    go false m = absurd (f (byte_missing u m))
 
 -- whether those from number i on are
 pub rest_in_table : List ℕ → ℕ → Bool
@@ -120,11 +136,11 @@ module _ (s : List ℕ) (i : ℕ) (h : i < length s / 2) where
       ap all_in_table (drop-cons (units_in s) i 0 (omega (arith, h, length_units s)))
       ∙ ap (λ k. member (get_or (units_in s) i 0) table && all_in_table (drop k (units_in s))) (sym (add-one i))
 
-  pub rest_outside : {b u : ℕ} → b ≡ byte_of u → u ≡ get_or (units_in s) i 0 → b ≡ 256 → false ≡ rest_in_table s i
-  rest_outside {b} {u} e f g =
-      sym (rest_cons ∙ ap (λ t. t && rest_in_table s (i + 1)) (outside (get_or (units_in s) i 0) (ap byte_of (sym f) ∙ sym e ∙ g)))
+  pub rest_outside : {o : Option ℕ} {u : ℕ} → o ≡ byte_in u → u ≡ get_or (units_in s) i 0 → is_some o ≡ false → false ≡ rest_in_table s i
+  rest_outside {o} {u} e f g =
+      sym (rest_cons ∙ ap (λ t. t && rest_in_table s (i + 1)) (sym (some_byte (get_or (units_in s) i 0)) ∙ ap is_some (ap byte_in (sym f) ∙ sym e) ∙ g))
 
-  pub rest_next : {b u : ℕ} → b ≡ byte_of u → u ≡ get_or (units_in s) i 0 → (b ≡ 256 → ⊥) → rest_in_table s i ≡ rest_in_table s (i + 1)
-  rest_next {b} {u} e f g =
+  pub rest_next : {o : Option ℕ} {u : ℕ} → o ≡ byte_in u → u ≡ get_or (units_in s) i 0 → is_some o ≡ true → rest_in_table s i ≡ rest_in_table s (i + 1)
+  rest_next {o} {u} e f g =
       rest_cons
-      ∙ ap (λ t. t && rest_in_table s (i + 1)) (inside (get_or (units_in s) i 0) (λ z. g (e ∙ ap byte_of f ∙ z)))
+      ∙ ap (λ t. t && rest_in_table s (i + 1)) (sym (some_byte (get_or (units_in s) i 0)) ∙ ap is_some (ap byte_in (sym f) ∙ sym e) ∙ g)

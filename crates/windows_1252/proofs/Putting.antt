@@ -1,19 +1,22 @@
 -- Units and bytes put over the start of the output, one after another.
 -- Assumes nothing.
-use mathlib.Core.Path.{◌≡◌, sym, ap, ap₂, ◌∙◌}
+use mathlib.Core.Path.{◌≡◌, refl, sym, ap, ap₂, ◌∙◌}
 use mathlib.Core.List.{List, ◌++◌}
 use Prim.Native.Nat.{ℕ, ◌+◌, ◌*◌, ◌/◌, ◌%◌, ◌≤◌, ◌<◌}
 use native.Mathlib.Omega.{arith}
 use native.Mathlib.Nat.{zero-add}
 use lib.ListN.{length, get_or, take, drop, set}
 use lib.Seq.{take_all}
+use Rattle.std.specs.Prelude.{Option, Some}
 use Rattle.format.specs.Stores.{over}
 use Rattle.format.specs.Writing.{outcome}
 use Rattle.format.proofs.Laws.Stores.{over_nothing, over_next}
-use Rattle.windows_1252_table.specs.Table.{table, unit_of, byte_of}
+use Rattle.windows_1252_table.specs.Table.{table, unit_of}
 use Rattle.windows_1252_table.specs.Utf16.{units_in, to_utf16, utf16_refusal, from_utf16}
 use Rattle.windows_1252_table.proofs.Laws.Utf16.{length_to_utf16, to_low, to_high, from_at, accepted_byte}
+use Rattle.windows_1252.specs.Code.{byte_in}
 use Rattle.windows_1252.specs.Theorems.{wrote}
+use Rattle.windows_1252.proofs.Finding.{found}
 
 -- the output with the first n bytes of t over its start
 pub started : List ℕ → ℕ → List ℕ → List ℕ
@@ -35,14 +38,14 @@ unfolding started
 all t l m n h e = e ∙ ap (over l 0) (take_all n t h)
 
 -- the two bytes of the next unit
-pub next_unit : (bs l m : List ℕ) (i u : ℕ) → i < length bs → 2 * length bs ≤ length l → u ≡ unit_of (get_or bs i 0) → m ≡ started (to_utf16 bs) (2 * i) l
-    → set (set m (2 * i) (u % 256)) (2 * i + 1) (u / 256 % 256) ≡ started (to_utf16 bs) (2 * (i + 1)) l
-next_unit bs l m i u h room e f =
+pub next_unit : (bs l m : List ℕ) (i a b u : ℕ) → i < length bs → 2 * length bs ≤ length l → u ≡ unit_of (get_or bs i 0) → a ≡ u % 256 → b ≡ u / 256 % 256
+    → m ≡ started (to_utf16 bs) (2 * i) l → set (set m (2 * i) a) (2 * i + 1) b ≡ started (to_utf16 bs) (2 * (i + 1)) l
+next_unit bs l m i a b u h room e low high f =
     let long = length_to_utf16 bs in
     let t : List ℕ = to_utf16 bs in
     let two : 2 * i + 1 + 1 ≡ 2 * (i + 1) = omega arith in
-    next t l (set m (2 * i) (u % 256)) (2 * i + 1) (u / 256 % 256) (omega (arith, h, long)) (omega (arith, room, long)) (ap (λ x. x / 256 % 256) e ∙ sym (to_high bs i h))
-    (next t l m (2 * i) (u % 256) (omega (arith, h, long)) (omega (arith, room, long)) (ap (λ x. x % 256) e ∙ sym (to_low bs i h)) f)
+    next t l (set m (2 * i) a) (2 * i + 1) b (omega (arith, h, long)) (omega (arith, room, long)) (high ∙ ap (λ x. x / 256 % 256) e ∙ sym (to_high bs i h))
+    (next t l m (2 * i) a (omega (arith, h, long)) (omega (arith, room, long)) (low ∙ ap (λ x. x % 256) e ∙ sym (to_low bs i h)) f)
     ∙ ap (λ n. started t n l) two
 
 -- a unit as the code reads it
@@ -58,9 +61,7 @@ put_all t l m e f =
     (f ∙ ap (λ k. t ++ drop k l) (zero-add (length t)))
 
 -- the byte of a unit, as the code finds it
-module _ (s : List ℕ) (i : ℕ) (h : i < length s / 2) {b u : ℕ} (e : b ≡ byte_of u) (f : u ≡ get_or (units_in s) i 0) where
-  pub unit_byte : b ≡ get_or (from_utf16 s) i 0
-  unit_byte = e ∙ ap byte_of f ∙ sym (from_at s i h)
-
-  pub unit_byte_small : utf16_refusal s ≡ 0 → b < 256
-  unit_byte_small z = omega (arith, e ∙ ap byte_of f, accepted_byte s i z h)
+module _ (s : List ℕ) (i : ℕ) (h : i < length s / 2) {o : Option ℕ} {u : ℕ} (e : o ≡ byte_in u) (f : u ≡ get_or (units_in s) i 0) (z : utf16_refusal s ≡ 0) where
+  pub unit_byte : o ≡ Some (get_or (from_utf16 s) i 0)
+  unit_byte =
+      e ∙ ap byte_in f ∙ sym (found (get_or (units_in s) i 0) (accepted_byte s i z h) refl) ∙ ap Some (sym (from_at s i h))

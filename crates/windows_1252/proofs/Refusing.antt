@@ -1,48 +1,47 @@
 -- What is refused, and what that leaves.
 -- Assumes nothing.
-use mathlib.Core.Path.{◌≡◌, refl, sym, ap, ap₂, ◌∙◌}
-use mathlib.Core.Bool.{Bool, true, false, cond, ◌&&◌}
+use mathlib.Core.Path.{◌≡◌, sym, ap, ◌∙◌}
+use mathlib.Core.Bool.{Bool, true, false, cond, false≢true}
 use mathlib.Core.List.{List}
-use Prim.Native.Nat.{ℕ, ◌/◌, ◌%◌, ◌≤◌, ◌<◌}
-use native.Mathlib.Omega.{arith}
+use Prim.Native.Nat.{ℕ, ◌/◌, ◌≤◌}
 use lib.ListN.{length}
 use lib.Dec.{leb}
-use borrow.Author.Tests.{eq-eqb, ne_eqb, leb-true, leb-false}
+use borrow.Author.Tests.{leb-true, leb-false}
+use Rattle.std.specs.Prelude.{Result, Ok, Err}
 use Rattle.format.specs.Writing.{outcome}
-use Rattle.windows_1252_table.specs.Utf16.{units_in, all_in_table, whole_test, utf16_refusal}
+use Rattle.format.specs.declared.Written.{Written}
+use Rattle.windows_1252_table.specs.Utf16.{whole_test, utf16_refusal}
+use Rattle.windows_1252.specs.declared.Fault.{Fault}
 use Rattle.windows_1252.specs.Calls.{writing_bytes}
-use Rattle.windows_1252.specs.Code.{refusal_of}
+use Rattle.windows_1252.specs.Faults.{fault_of, told}
 use Rattle.windows_1252.specs.Theorems.{outside_table, bytes_no_room}
 
--- half a unit, or none
-pub even_whole : (s : List ℕ) {r : Bool} → length s % 2 ≡ 0 → r ≡ all_in_table (units_in s) → r ≡ whole_test s
-even_whole s h e = e ∙ ap (λ t. t && all_in_table (units_in s)) (sym (eq-eqb (length s % 2) 0 h))
+-- the answer of a call, if n bytes are written
+answer : ℕ → Result (Unit {0}) Fault → Written
+answer n (Ok x) = told (Ok n)
+answer n (Err k) = told (Err k)
 
-pub odd_not : (s : List ℕ) → (length s % 2 ≡ 0 → ⊥) → false ≡ whole_test s
-odd_not s h = ap (λ t. t && all_in_table (units_in s)) (sym (ne_eqb (length s % 2) 0 h))
+is_right : Result (Unit {0}) Fault → Bool
+is_right (Ok x) = true
+is_right (Err k) = false
 
-module _ (s out : List ℕ) {right : Bool} {r : ℕ} (e : right ≡ whole_test s) (f : r ≡ refusal_of right (leb (length s / 2) (length out))) where
-  -- the three cases
-  by-case {ℓ} : {X : Type ℓ} → (utf16_refusal s ≡ 18 → r ≡ 18 → X) → (utf16_refusal s ≡ 0 → length out < length s / 2 → r ≡ 15 → X)
-      → (utf16_refusal s ≡ 0 → length s / 2 ≤ length out → r ≡ 0 → X) → X
-  unfolding utf16_refusal
-  by-case {X} wrong short good = go (whole_test s) (leb (length s / 2) (length out)) refl refl
+module _ (s out : List ℕ) {right fits : Bool} (e : right ≡ whole_test s) (f : fits ≡ leb (length s / 2) (length out)) where
+  pub refused_told : {k : Fault} → Err k ≡ fault_of right fits → outcome (told (Err k)) out ≡ writing_bytes s out
+  unfolding utf16_refusal answer is_right
+  refused_told {k} h =
+      ap (λ r. outcome (answer 0 r) out) h ∙ go right fits e f (ap is_right (sym h))
     where
-      is : {a b : Bool} → whole_test s ≡ a → leb (length s / 2) (length out) ≡ b → r ≡ refusal_of a b
-      is p q = f ∙ ap₂ refusal_of (e ∙ p) q
+      go : (a b : Bool) → a ≡ whole_test s → b ≡ leb (length s / 2) (length out) → is_right (fault_of a b) ≡ false → outcome (answer 0 (fault_of a b)) out ≡ writing_bytes s out
+      go false b p q z = sym (outside_table s out (ap (λ t. cond t 0 18) (sym p)))
+      go true false p q z =
+          sym (bytes_no_room s out (ap (λ t. cond t 0 18) (sym p)) (leb-false (length s / 2) (length out) (sym q)))
+      go true true p q z = absurd (false≢true (sym z))
 
-      go : (a b : Bool) → whole_test s ≡ a → leb (length s / 2) (length out) ≡ b → X
-      go false b p q = wrong (ap (λ t. cond t 0 18) p) (is p q)
-      go true false p q = short (ap (λ t. cond t 0 18) p) (leb-false (length s / 2) (length out) q) (is p q)
-      go true true p q = good (ap (λ t. cond t 0 18) p) (leb-true (length s / 2) (length out) q) (is p q)
-
-  pub refused_first : 0 < r → outcome (record { refusal = r; length = 0 }) out ≡ writing_bytes s out
-  refused_first h =
-      by-case (λ w k. ap (λ n. outcome (record { refusal = n; length = 0 }) out) k ∙ sym (outside_table s out w))
-      (λ w l k. ap (λ n. outcome (record { refusal = n; length = 0 }) out) k ∙ sym (bytes_no_room s out w l)) (λ w l k. absurd (omega (arith, h, k)))
-
-  pub not_refused : r ≡ 0 → utf16_refusal s ≡ 0
-  not_refused z = by-case (λ w k. absurd (omega (arith, z, k))) (λ w l k. w) (λ w l k. w)
-
-  pub has_room : r ≡ 0 → length s / 2 ≤ length out
-  has_room z = by-case (λ w k. absurd (omega (arith, z, k))) (λ w l k. absurd (omega (arith, z, k))) (λ w l k. l)
+  pub not_refused : {x : Unit {0}} → Ok x ≡ fault_of right fits → (utf16_refusal s ≡ 0) × (length s / 2 ≤ length out)
+  unfolding utf16_refusal is_right
+  not_refused h = go right fits e f (ap is_right (sym h))
+    where
+      go : (a b : Bool) → a ≡ whole_test s → b ≡ leb (length s / 2) (length out) → is_right (fault_of a b) ≡ true → (utf16_refusal s ≡ 0) × (length s / 2 ≤ length out)
+      go false b p q z = absurd (false≢true z)
+      go true false p q z = absurd (false≢true z)
+      go true true p q z = (ap (λ t. cond t 0 18) (sym p), leb-true (length s / 2) (length out) (sym q))

@@ -1,7 +1,8 @@
 -- What the code's own functions promise. Nothing of it has to be believed: the promises of the calls do not cite it.
 -- Assumes nothing.
-use Rattle.std.specs.Prelude.{◌≡◌, Bool, cond, List, [], ◌∷◌, ℕ, ◌%◌, get_or, ltb}
-use Rattle.windows_1252_table.specs.Table.{table}
+use Rattle.std.specs.Prelude.{◌≡◌, cond, List, [], ◌∷◌, ℕ, ◌%◌, get_or, ltb, Option, Some, None}
+use Rattle.format.specs.Good.{member}
+use Rattle.windows_1252_table.specs.Table.{table, byte_of}
 
 -- the bytes of the units from 256 on, each at its unit's remainder by 79
 unfoldable pub candidate_bytes : List ℕ
@@ -27,6 +28,6 @@ pub record TablesAre (us bs : List ℕ) : Type 0 where
   pub units : us ≡ table
   pub candidates : bs ≡ candidate_bytes
 
--- the refusal of units, by whether they are right and whether their bytes fit the output
-abbrev pub refusal_of : Bool → Bool → ℕ
-refusal_of right fits = cond right (cond fits 0 15) 18
+-- the byte of a unit, where the table has it
+unfoldable pub byte_in : ℕ → Option ℕ
+byte_in u = cond (member u table) (Some (byte_of u)) None

@@ -1,3 +1,4 @@
 pub mod Calls
 pub mod Code
+pub mod Faults
 pub mod Theorems

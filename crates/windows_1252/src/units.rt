@@ -1,46 +1,92 @@
 // Units of UTF-16: their bytes, and what is refused.
 
 ghost use Rattle.std.specs.Prelude.{◌≡◌, ◌/◌, ◌<◌, ◌≤◌, length, get_or};
-ghost use Rattle.format.specs.Writing.{outcome};
-ghost use Rattle.windows_1252_table.specs.Table.{byte_of};
+ghost use Rattle.format.specs.Stores.{over};
+ghost use Rattle.windows_1252_table.specs.Table.{unit_of};
 ghost use Rattle.windows_1252_table.specs.Utf16.{units_in, all_in_table, whole_test, utf16_refusal, from_utf16};
-ghost use Rattle.windows_1252.specs.Code.{candidate_bytes, candidate_of, TablesAre, refusal_of};
-ghost use Rattle.windows_1252.specs.Theorems.{wrote};
+ghost use Rattle.windows_1252.specs.Code.{candidate_of, byte_in, TablesAre};
 
-use format::Written;
+use crate::table::{CANDIDATES, UNITS};
 use numbers::unit;
 
-pub fn wide(x: u8) -> usize
-    ensures { (result ≡ x) × (result < 256) }
-{
-    x as usize
+// The units below it are their own bytes.
+const OWN: u16 = 128;
+
+// The unit of each byte, and the byte that each unit can be.
+#[derive(Drop)]
+pub struct Tables {
+    units: [u16; 256],
+    candidates: [u8; 79],
+    ghost tables: { TablesAre units candidates },
 }
 
-// The one byte that a unit can be.
-fn candidate(candidates: &[u8; 79], u: u16) -> usize
-    requires { candidates.now ≡ candidate_bytes }
-    ensures { (result ≡ candidate_of u) × (result < 256) }
-{
-    if u < 256 {
-        return u as usize;
+impl Tables {
+    pub fn new() -> Self {
+        Tables {
+            units: UNITS,
+            candidates: CANDIDATES,
+        }
     }
-    let k = (u % 79) as usize;
-    wide(candidates[k])
-}
 
-// The byte of a unit, and 256 where the table does not have it.
-fn byte_of(units: &[u16; 256], candidates: &[u8; 79], u: u16) -> usize
-    requires { TablesAre units.now candidates.now }
-    ensures { result ≡ byte_of u }
-{
-    if u < 128 {
-        return u as usize;
+    // Rule 14.2: the unit of a byte.
+    pub fn unit_of(&self, b: u8) -> u16
+        ensures { result ≡ unit_of b }
+    {
+        self.units[usize::from(b)]
     }
-    let b = candidate(candidates, u);
-    if units[b] == u {
-        return b;
+
+    // The one byte that a unit can be, as a unit: as a `u8` it made judging a text take half as long again.
+    fn candidate(&self, u: u16) -> u16
+        ensures { (result ≡ candidate_of u) × (result < 256) }
+    {
+        if u < 256 {
+            return u;
+        }
+        u16::from(self.candidates[usize::from(u % 79)])
     }
-    256
+
+    // Rule 14.3: the byte of a unit, where the table has it.
+    fn byte_of(&self, u: u16) -> Option<u8>
+        ensures { result ≡ byte_in u }
+    {
+        if u < OWN {
+            return Some(u as u8);
+        }
+        let b = self.candidate(u);
+        if self.units[usize::from(b)] == u {
+            return Some(b as u8);
+        }
+        None
+    }
+
+    // Whether every whole unit is in the table.
+    fn all_in_table(&self, s: &[u8]) -> bool
+        ensures { result ≡ all_in_table (units_in s.now) }
+    {
+        for i in 0..s.len() / 2 {
+            if self.byte_of(unit_in(s, i)).is_none() {
+                return false;
+            }
+        }
+        true
+    }
+
+    // Rule 14.6: whether there are only whole units, all in the table.
+    pub fn accepts(&self, s: &[u8]) -> bool
+        ensures { result ≡ whole_test s.now }
+    {
+        s.len() % 2 == 0 && self.all_in_table(s)
+    }
+
+    // Writes the bytes of units that are in the table over the start of the output.
+    pub fn put_bytes(&self, out: &mut [u8], s: &[u8])
+        requires { (utf16_refusal s.now ≡ 0) × (length s.now / 2 ≤ length out.old) }
+        ensures { out.new ≡ over out.old 0 (from_utf16 s.now) }
+    {
+        for i in 0..s.len() / 2 {
+            out[i] = self.byte_of(unit_in(s, i)).unwrap();
+        }
+    }
 }
 
 // Unit number i.
@@ -49,61 +95,4 @@ fn unit_in(s: &[u8], i: usize) -> u16
     ensures { result ≡ get_or (units_in s.now) i 0 }
 {
     unit(s[2 * i], s[2 * i + 1])
-}
-
-// Whether every whole unit is in the table.
-fn all_in_table(units: &[u16; 256], candidates: &[u8; 79], s: &[u8]) -> bool
-    requires { TablesAre units.now candidates.now }
-    ensures { result ≡ all_in_table (units_in s.now) }
-{
-    let n = s.len() / 2;
-    let mut i = 0;
-    while i < n {
-        if byte_of(units, candidates, unit_in(s, i)) == 256 {
-            return false;
-        }
-        i += 1;
-    }
-    true
-}
-
-// Rule 14.6: whether there are only whole units, all in the table.
-pub fn accepted(units: &[u16; 256], candidates: &[u8; 79], s: &[u8]) -> bool
-    requires { TablesAre units.now candidates.now }
-    ensures { result ≡ whole_test s.now }
-{
-    if s.len() % 2 == 0 {
-        return all_in_table(units, candidates, s);
-    }
-    false
-}
-
-// Rule 14.8: the refusal, 0 for none: 18 goes before 15.
-pub fn refusal(right: bool, fits: bool) -> u32
-    ensures { result ≡ refusal_of right fits }
-{
-    if right {
-        if fits {
-            return 0;
-        }
-        return 15;
-    }
-    18
-}
-
-// Writes the bytes of units that are in the table over the start of the output, and answers how many.
-pub fn put_bytes(out: &mut [u8], units: &[u16; 256], candidates: &[u8; 79], s: &[u8]) -> Written
-    requires { TablesAre units.now candidates.now × (utf16_refusal s.now ≡ 0) × (length s.now / 2 ≤ length out.old) }
-    ensures { outcome result out.new ≡ wrote (from_utf16 s.now) out.old }
-{
-    let n = s.len() / 2;
-    let mut i = 0;
-    while i < n {
-        out[i] = byte_of(units, candidates, unit_in(s, i)) as u8;
-        i += 1;
-    }
-    Written {
-        refusal: 0,
-        length: n,
-    }
 }

@@ -1,2 +1,3 @@
+pub mod Answer
 pub mod Pieces
 pub mod Room

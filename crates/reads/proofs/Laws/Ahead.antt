@@ -1,6 +1,6 @@
 -- A read from a place of any log: what it answers, by the next wanted record.
 -- Assumes nothing.
-use Rattle.std.specs.Prelude.{◌≡◌, Bool, cond, ℕ, ◌+◌, ◌-◌, ◌≤◌, ◌<◌, length, drop, eqb}
+use Rattle.std.specs.Prelude.{◌≡◌, Bool, cond, ℕ, ◌+◌, ◌-◌, ◌≤◌, ◌<◌, length, drop, eqb, Err}
 use Rattle.std.proofs.Math.Path.{refl, ap}
 use Rattle.std.proofs.Common.{sym, ap₂, ◌∙◌, subst, arith, length-append}
 use Rattle.std.proofs.Math.Bool.{true, false}
@@ -10,7 +10,7 @@ use borrow.Author.Tests.{eq-eqb, ne_eqb, leb-true, leb-false}
 use Rattle.format.specs.declared.Record.{Record}
 use Rattle.format.specs.declared.Direction.{Direction}
 use Rattle.format.specs.Bytes.{part}
-use Rattle.delivered.specs.declared.Delivered.TheVariants.{End, Corrupt, TooLong}
+use Rattle.delivered.specs.declared.Undelivered.TheVariants.{End, Corrupt, TooLong}
 use Rattle.delivery.specs.Delivering.{trace_ahead, fitting, records_bytes, edge, last_edge, delivery, copied, delivered, delivering}
 use Rattle.serve.specs.declared.Place.TheVariants.{Boundary}
 use Rattle.serve.specs.declared.Handle.{Handle}
@@ -143,7 +143,7 @@ module _ (d : Direction) (w : ℕ) (s : List ℕ) (p : ℕ) (h : Handle) (q : Re
 
     abbrev chosen : Bool → Served
     chosen b =
-        served_with h (cond b (copied (records_bytes s (cond b (a ∷ fitting (q.size - a.length) others) [])) (last_edge d 0 (cond b (a ∷ fitting (q.size - a.length) others) [])) out) (delivery (TooLong a.length) out))
+        served_with h (cond b (copied (records_bytes s (cond b (a ∷ fitting (q.size - a.length) others) [])) (last_edge d 0 (cond b (a ∷ fitting (q.size - a.length) others) [])) out) (delivery (Err (TooLong a.length)) out))
 
     answered : served_with h (delivering d w s types p q.size out) ≡ chosen (leb a.length q.size)
     unfolding delivering fitting
@@ -172,11 +172,11 @@ module _ (d : Direction) (w : ℕ) (s : List ℕ) (p : ℕ) (h : Handle) (q : Re
 
   -- no wanted record: the refusal that ends the walk says why
   unanswered : wanted_from d w s types p ≡ [] → (b : Bool) → eqb (trace_ahead d w s p).refusal.number 0 ≡ b
-      → served_with h (delivering d w s types p q.size out) ≡ served_with h (delivery (cond b End Corrupt) out)
+      → served_with h (delivering d w s types p q.size out) ≡ served_with h (delivery (Err (cond b End Corrupt)) out)
   unfolding delivering
   unanswered e b f =
       ap (λ t. served_with h (delivered d s q.size out (trace_ahead d w s p).refusal.number t)) e
-      ∙ ap (λ t. served_with h (delivery (cond t End Corrupt) out)) f
+      ∙ ap (λ t. served_with h (delivery (Err (cond t End Corrupt)) out)) f
 
   pub reads_from_lem : ReadsFrom d w s types p q (served_with h (delivering d w s types p q.size out))
   reads_from_lem =

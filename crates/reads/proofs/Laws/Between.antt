@@ -1,7 +1,7 @@
 -- A place between two records of a log that has a cut: what lies ahead of it in either direction, and where reading
 -- stands after some of that.
 -- Assumes nothing.
-use Rattle.std.specs.Prelude.{◌≡◌, refl, Bool, true, false, cond, List, [], ◌∷◌, ◌++◌, map, reverse, ℕ, zero, suc, ◌+◌, ◌-◌, ◌≤◌, length, take, drop, leb}
+use Rattle.std.specs.Prelude.{◌≡◌, refl, Bool, true, false, cond, List, [], ◌∷◌, ◌++◌, map, reverse, ℕ, zero, suc, ◌-◌, ◌≤◌, length, take, drop, leb}
 use Rattle.std.proofs.Common.{sym, ap, ◌∙◌, arith, le_of_suc-le-suc, length-append, length-drop, take-append-drop, take-add, take_at, take-take, drop_at, drop-drop, length-take-le}
 use Rattle.std.proofs.lemmas.List.{reverse-append, reverse-reverse, length-reverse}
 use Rattle.format.specs.declared.Direction.{Direction}

@@ -1,7 +1,7 @@
 -- Records of a cut that lie ahead of a place, in either direction: what fits, what is answered, where reading
 -- stands then. Nothing here speaks of a count or a list of reads.
 -- Assumes nothing.
-use Rattle.std.specs.Prelude.{◌≡◌, refl, Bool, true, false, cond, ℕ, zero, suc, ◌+◌, ◌-◌, ◌≤◌, length, take, drop, leb}
+use Rattle.std.specs.Prelude.{◌≡◌, refl, Bool, true, false, cond, ℕ, zero, suc, ◌+◌, ◌-◌, ◌≤◌, length, take, drop, leb, Err}
 use Rattle.std.proofs.Common.{sym, ap, ap₂, ◌∙◌, subst, arith, take_at}
 use mathlib.Core.List.{List, [], ◌∷◌, ◌++◌, map, map-append, reverse, reverse-cons}
 use Rattle.format.specs.declared.Record.{Record}
@@ -16,7 +16,7 @@ use Rattle.format.proofs.Laws.Steps.{Judged}
 use Rattle.format.proofs.Laws.Walks.{all_reverse, found_moves, rest_start, front_trace, rear_trace}
 use Rattle.event_types.specs.Types.{only}
 use Rattle.event_types.specs.Laws.{only_reverse, all_only}
-use Rattle.delivered.specs.declared.Delivered.TheVariants.{TooLong}
+use Rattle.delivered.specs.declared.Undelivered.TheVariants.{TooLong}
 use Rattle.delivery.specs.Delivering.{trace_ahead, wanted_of, fitting, records_bytes, edge, last_edge, delivery, copied, delivered, delivering}
 use Rattle.request.specs.Statuses.{end_of_file, buffer_too_small}
 use Rattle.serve.specs.declared.Place.{Place}
@@ -135,7 +135,7 @@ delivered_entries d w s size h out (e ∷ es) ps = go (leb (length e.bytes) size
     some = take (fits size (e ∷ es)) (e ∷ es)
 
     go : (b : Bool) → leb (length e.bytes) size ≡ b
-        → served_with h (cond b (copied (records_bytes s (fitting size (map (record_of w) (e ∷ es)))) (last_edge d 0 (fitting size (map (record_of w) (e ∷ es)))) out) (delivery (TooLong (length e.bytes)) out))
+        → served_with h (cond b (copied (records_bytes s (fitting size (map (record_of w) (e ∷ es)))) (last_edge d 0 (fitting size (map (record_of w) (e ∷ es)))) out) (delivery (Err (TooLong (length e.bytes))) out))
         ≡ cond b (success (reached d h.place some) h.types (joined some) out) (refused buffer_too_small (length e.bytes) h out)
     go false f = refl
     go true f =

@@ -1,9 +1,8 @@
 -- A record that a step finds: where it lies, and that a step back from its other end finds it again.
 -- Assumes nothing.
-use Rattle.std.specs.Prelude.{◌≡◌, refl, true, List, ◌++◌, ℕ, ◌+◌, ◌-◌, ◌≤◌, length, take, drop}
+use Rattle.std.specs.Prelude.{◌≡◌, refl, true, List, ◌++◌, ℕ, ◌+◌, ◌-◌, ◌≤◌, length, take, drop, Ok}
 use Rattle.std.proofs.Common.{sym, ap, ◌∙◌, subst, append_assoc, arith, length-append, take-append-drop, length-take-le, take_at, drop_at}
 use Rattle.format.specs.declared.Record.{Record}
-use Rattle.format.specs.declared.Step.TheVariants.{Found}
 use Rattle.format.specs.declared.Direction.{Direction}
 use Rattle.format.specs.declared.Direction.TheVariants.{Forwards, Backwards}
 use Rattle.format.specs.Bytes.{part}
@@ -40,8 +39,8 @@ module _ (w : ℕ) (s : List ℕ) (p : ℕ) (r : List ℕ) where
   start_again Backwards x = refl
 
   found_again : (d : Direction) → Judged w r → BytesAt d s p r
-      → step_at (opposite d) w s (past d p (length r)) ≡ Found (shown w (start_of d p (length r)) r)
-  found_again d j x = bytes_at_found j (ahead_again d x) ∙ ap (λ i. Found (shown w i r)) (start_again d x)
+      → step_at (opposite d) w s (past d p (length r)) ≡ Ok (shown w (start_of d p (length r)) r)
+  found_again d j x = bytes_at_found j (ahead_again d x) ∙ ap (λ i. Ok (shown w i r)) (start_again d x)
 
 -- ---- what is known of a record that a step finds
 
@@ -55,7 +54,7 @@ pub record Lies (d : Direction) (w : ℕ) (s : List ℕ) (p : ℕ) (a : Record) 
   -- it ends where the next step starts
   pub ends : edge d a ≡ past d p a.length
   -- and is found from there in the other direction
-  pub again : step_at (opposite d) w s (past d p a.length) ≡ Found a
+  pub again : step_at (opposite d) w s (past d p a.length) ≡ Ok a
 
 shown_lies : (d : Direction) (w : ℕ) (s : List ℕ) (p : ℕ) (r : List ℕ) → Judged w r → BytesAt d s p r → Lies d w s p (shown w (start_of d p (length r)) r)
 unfolding shown
@@ -74,7 +73,7 @@ shown_lies d w s p r j x =
     edges Forwards = refl
     edges Backwards = refl
 
-pub found_lies : (d : Direction) (w : ℕ) (s : List ℕ) (p : ℕ) (a : Record) → step_at d w s p ≡ Found a → Lies d w s p a
+pub found_lies : (d : Direction) (w : ℕ) (s : List ℕ) (p : ℕ) (a : Record) → step_at d w s p ≡ Ok a → Lies d w s p a
 found_lies d w s p a e =
     let m = found_bytes_at d w s p a e in
     let r : List ℕ = m.0 in

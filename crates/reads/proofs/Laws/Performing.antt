@@ -1,6 +1,7 @@
 -- One read or append of a log that has a cut, and any series of them, are the model's.
 -- Assumes nothing.
-use Rattle.std.specs.Prelude.{◌≡◌, refl, Bool, true, false, cond, ◌&&◌, List, [], ◌∷◌, ◌++◌, map, ℕ, zero, suc, ◌+◌, ◌-◌, ◌≤◌, ◌<◌, length, take, drop, eqb, leb}
+use Rattle.std.specs.Prelude.{◌≡◌, refl, Bool, true, false, cond, ◌&&◌, List, [], ◌∷◌, ◌++◌, map, ℕ, zero, suc, ◌+◌, ◌-◌, ◌≤◌, ◌<◌, length, take, drop, eqb, leb, Option, Some, None, Ok, Err}
+use Rattle.std.specs.Prelude as std
 use Rattle.std.proofs.Common.{sym, ap₂, ◌∙◌, append_assoc, append-nil, add-zero, zero-add, arith, length-append, length-drop, take-append-drop, take_at, drop_at, drop-drop, leb-true, le-leb}
 use Rattle.std.proofs.Math.Path.{ap}
 use Rattle.std.proofs.lemmas.List.{take-append-le}
@@ -25,11 +26,11 @@ use Rattle.format.proofs.Theorems as format
 use Rattle.event_types.specs.Types.{only, is_type_set}
 use Rattle.delivery.specs.Delivering.{delivering}
 use Rattle.request.specs.declared.Request.{Request}
-use Rattle.request.specs.declared.Request.TheVariants.{Sequential, Seek, Wrong}
+use Rattle.request.specs.declared.Request.TheVariants.{Sequential, Seek}
 use Rattle.request.specs.Statuses.{invalid_parameter, invalid_handle, buffer_too_small}
 use Rattle.request.specs.Asking.{request}
-use Rattle.seek.specs.declared.Start.{Start}
-use Rattle.seek.specs.declared.Start.TheVariants.{From, Refused}
+use Rattle.request.specs.declared.status.Status.{Status}
+use Rattle.request.specs.declared.status.Status.TheVariants.{InvalidParameter}
 use Rattle.seek.specs.Seeking.{place_of, sought, seek_start}
 use Rattle.serve.specs.declared.Place.{Place}
 use Rattle.serve.specs.declared.Place.TheVariants.{Boundary}
@@ -48,9 +49,9 @@ use Rattle.reads.proofs.Laws.Between.{met_entries, met_stands, entry_bytes, met_
 -- ---- where a seek starts
 
 -- the record found, or 0xC000000D, by how many are before it
-abbrev sought_at : Direction → ℕ → ℕ → List (List ℕ) → Start
+abbrev sought_at : Direction → ℕ → ℕ → List (List ℕ) → std.Result ℕ Status
 sought_at d number p rs =
-    cond (leb (suc (older_than number rs)) (length rs)) (From (p + place_behind rs (seeks_at d (older_than number rs)))) (Refused invalid_parameter)
+    cond (leb (suc (older_than number rs)) (length rs)) (Ok (p + place_behind rs (seeks_at d (older_than number rs)))) (Err InvalidParameter)
 
 sought_at_lem : (d : Direction) (w number p : ℕ) (rs : List (List ℕ)) → sought d number 0 (shown_from Forwards w p rs) ≡ sought_at d number p rs
 unfolding shown
@@ -60,23 +61,23 @@ sought_at_lem d w number p (r ∷ rs) = go (eqb (record_number r) number) (sough
     o : ℕ
     o = older_than number rs
 
-    found : (d : Direction) → From (place_of d (shown w p r)) ≡ From (p + place_behind (r ∷ rs) (seeks_at d 0))
-    found Forwards = ap From (omega arith)
-    found Backwards = ap From (omega (arith, ap length (append-nil r)))
+    found : (d : Direction) → place_of d (shown w p r) ≡ p + place_behind (r ∷ rs) (seeks_at d 0)
+    found Forwards = omega arith
+    found Backwards = omega (arith, ap length (append-nil r))
 
     onward : (d : Direction) → p + length r + place_behind rs (seeks_at d o) ≡ p + place_behind (r ∷ rs) (seeks_at d (suc o))
     onward Forwards = omega (arith, length-append r (join (take o rs)))
     onward Backwards = omega (arith, length-append r (join (take (suc o) rs)))
 
     go : (b : Bool) → sought d number 0 (shown_from Forwards w (p + length r) rs) ≡ sought_at d number (p + length r) rs
-        → cond b (From (place_of d (shown w p r))) (sought d number 0 (shown_from Forwards w (p + length r) rs))
-        ≡ cond (leb (suc (cond b 0 (suc o))) (suc (length rs))) (From (p + place_behind (r ∷ rs) (seeks_at d (cond b 0 (suc o))))) (Refused invalid_parameter)
+        → cond b (Ok (place_of d (shown w p r))) (sought d number 0 (shown_from Forwards w (p + length r) rs))
+        ≡ cond (leb (suc (cond b 0 (suc o))) (suc (length rs))) (Ok (p + place_behind (r ∷ rs) (seeks_at d (cond b 0 (suc o))))) (Err InvalidParameter)
     go true e =
-        found d
-        ∙ ap (λ b. cond b (From (p + place_behind (r ∷ rs) (seeks_at d 0))) (Refused invalid_parameter)) (sym (le-leb 1 (suc (length rs)) (omega arith)))
+        ap Ok (found d)
+        ∙ ap (λ b. cond b (Ok (p + place_behind (r ∷ rs) (seeks_at d 0))) (Err InvalidParameter)) (sym (le-leb 1 (suc (length rs)) (omega arith)))
     go false e =
         e
-        ∙ ap₂ (λ (b : Bool) (i : ℕ). cond b (From i) (Refused invalid_parameter)) (sym (leb-suc-suc (suc o) (length rs))) (onward d)
+        ∙ ap₂ (λ (b : Bool) (i : ℕ). cond b (Ok i) (Err InvalidParameter)) (sym (leb-suc-suc (suc o) (length rs))) (onward d)
 
 -- ---- what holds of a state
 
@@ -194,14 +195,14 @@ module _ (w types : ℕ) (lent : List ℕ) (m : State) (pos : zero < w) (y : Pro
     place_starts Backwards Unset = ap (λ ts. length (join ts)) (sym (take-length rs))
 
     sequential_outcome : (d : Direction)
-        → ReadResult (started d w s q.size h q.output (From (reading_place d s h.place))) ≡ shown_result types lent (read_asked types m q (Sequential d))
+        → ReadResult (started d w s q.size h q.output (Ok (reading_place d s h.place))) ≡ shown_result types lent (read_asked types m q (Some (Sequential d)))
     sequential_outcome d =
         ap (λ p. ReadResult (served_with h (delivering d w s types p q.size q.output))) (place_starts d m.cursor)
         ∙ from_outcome d (starts_at d rs m.cursor) (starts_within rs d m.cursor y.within)
 
     -- a seek from the record that it finds
     seek_outcome : (d : Direction)
-        → ReadResult (started d w s q.size h q.output (seek_start d w s q.number)) ≡ shown_result types lent (read_asked types m q (Seek d))
+        → ReadResult (started d w s q.size h q.output (seek_start d w s q.number)) ≡ shown_result types lent (read_asked types m q (Some (Seek d)))
     seek_outcome d =
         ap (λ (t : Trace). ReadResult (started d w s q.size h q.output (sought d q.number t.refusal.number t.records))) (front_trace w s rs judged refl)
         ∙ ap (λ x. ReadResult (started d w s q.size h q.output x)) (sought_at_lem d w q.number 0 rs)
@@ -211,18 +212,18 @@ module _ (w types : ℕ) (lent : List ℕ) (m : State) (pos : zero < w) (y : Pro
         o = older_than q.number rs
 
         go : (b : Bool) → leb (suc o) (length rs) ≡ b
-            → ReadResult (started d w s q.size h q.output (cond b (From (0 + place_behind rs (seeks_at d o))) (Refused invalid_parameter)))
+            → ReadResult (started d w s q.size h q.output (cond b (Ok (0 + place_behind rs (seeks_at d o))) (Err InvalidParameter)))
             ≡ shown_result types lent (cond b (reads_from types d m q (seeks_at d o)) wrong)
         go true f =
             ap (λ p. ReadResult (served_with h (delivering d w s types p q.size q.output))) (zero-add (place_behind rs (seeks_at d o)))
             ∙ from_outcome d (seeks_at d o) (seeks_within rs d o (leb-true (suc o) (length rs) f))
         go false f = refl
 
-    asked_outcome : (r : Request)
+    asked_outcome : (r : Option Request)
         → ReadResult (asked w s h q.number q.size q.output r) ≡ shown_result types lent (cond (size_ok q.size q.output && is_type_set types) (read_asked types m q r) wrong)
-    asked_outcome (Sequential d) = allowed_outcome _ (read_asked types m q (Sequential d)) (sequential_outcome d)
-    asked_outcome (Seek d) = allowed_outcome _ (read_asked types m q (Seek d)) (seek_outcome d)
-    asked_outcome Wrong = same_wrong (size_ok q.size q.output && is_type_set types)
+    asked_outcome (Some (Sequential d)) = allowed_outcome _ (read_asked types m q (Some (Sequential d))) (sequential_outcome d)
+    asked_outcome (Some (Seek d)) = allowed_outcome _ (read_asked types m q (Some (Seek d))) (seek_outcome d)
+    asked_outcome None = same_wrong (size_ok q.size q.output && is_type_set types)
 
     used_bytes : take (length s) buffer ≡ s
     used_bytes = take_at s (drop (length s) lent) (length s) refl
@@ -265,9 +266,9 @@ module _ (w types : ℕ) (lent : List ℕ) (m : State) (pos : zero < w) (y : Pro
     leaves_at : (d : Direction) (n : ℕ) → n ≤ length rs → Leaves w types lent m (reads_from types d m q n)
     leaves_at d n l = leaves_from d n l (only (wanted_bytes types) (records_ahead d n rs))
 
-    leaves_asked : (r : Request) → Leaves w types lent m (read_asked types m q r)
-    leaves_asked (Sequential d) = leaves_at d (starts_at d rs m.cursor) (starts_within rs d m.cursor y.within)
-    leaves_asked (Seek d) = go (leb (suc o) (length rs)) refl
+    leaves_asked : (r : Option Request) → Leaves w types lent m (read_asked types m q r)
+    leaves_asked (Some (Sequential d)) = leaves_at d (starts_at d rs m.cursor) (starts_within rs d m.cursor y.within)
+    leaves_asked (Some (Seek d)) = go (leb (suc o) (length rs)) refl
       where
         o : ℕ
         o = older_than q.number rs
@@ -275,7 +276,7 @@ module _ (w types : ℕ) (lent : List ℕ) (m : State) (pos : zero < w) (y : Pro
         go : (b : Bool) → leb (suc o) (length rs) ≡ b → Leaves w types lent m (cond b (reads_from types d m q (seeks_at d o)) wrong)
         go true f = leaves_at d (seeks_at d o) (seeks_within rs d o (leb-true (suc o) (length rs) f))
         go false f = leaves_refused 0xC000000D 0
-    leaves_asked Wrong = leaves_refused 0xC000000D 0
+    leaves_asked None = leaves_refused 0xC000000D 0
 
     leaves_read : (b : Bool) → Leaves w types lent m (cond b (read_asked types m q (request q.flags)) wrong)
     leaves_read true = leaves_asked (request q.flags)

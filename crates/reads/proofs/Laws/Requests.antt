@@ -1,6 +1,6 @@
 -- What the flags of a read ask for, and where a read with right size, set and handle starts.
 -- Assumes nothing.
-use Rattle.std.specs.Prelude.{◌≡◌, refl, true, cond, ◌&&◌, List, ℕ, length, leb}
+use Rattle.std.specs.Prelude.{◌≡◌, refl, true, cond, ◌&&◌, List, ℕ, length, leb, Some}
 use Rattle.std.proofs.Math.Path.{ap}
 use Rattle.std.proofs.Common.{◌∙◌, le-leb}
 use Rattle.format.specs.declared.Direction.{Direction}
@@ -20,12 +20,12 @@ use Rattle.serve.specs.Serving.{reading_place, in_log, refused, served_with, sta
 use Rattle.reads.specs.Model.{Read, sequential_flags, seek_flags, RightSize, RightSet, Inside, Asks}
 use Rattle.reads.specs.Series.{call}
 
-pub request_sequential : (d : Direction) → request (sequential_flags d) ≡ Sequential d
+pub request_sequential : (d : Direction) → request (sequential_flags d) ≡ Some (Sequential d)
 unfolding request
 request_sequential Forwards = refl
 request_sequential Backwards = refl
 
-pub request_seek : (d : Direction) → request (seek_flags d) ≡ Seek d
+pub request_seek : (d : Direction) → request (seek_flags d) ≡ Some (Seek d)
 unfolding request
 request_seek Forwards = refl
 request_seek Backwards = refl

@@ -1,6 +1,6 @@
 -- In the model: a read that succeeds, and after it a sequential read in the other direction.
 -- Assumes nothing.
-use Rattle.std.specs.Prelude.{◌≡◌, refl, Bool, true, false, cond, ◌&&◌, ◌⊎◌, List, [], ◌∷◌, ◌++◌, ℕ, suc, ◌-◌, ◌≤◌, length, take, drop, leb}
+use Rattle.std.specs.Prelude.{◌≡◌, refl, Bool, true, false, cond, ◌&&◌, ◌⊎◌, List, [], ◌∷◌, ◌++◌, ℕ, suc, ◌-◌, ◌≤◌, length, take, drop, leb, Some}
 use Rattle.std.proofs.Common.{sym, ap, ◌∙◌, subst, ⊎_elim, append_assoc, suc-ne-zero, arith, take_at, le-leb, leb-true}
 use Rattle.format.specs.declared.Direction.{Direction}
 use Rattle.format.specs.declared.Direction.TheVariants.{Forwards}
@@ -77,8 +77,8 @@ module _ (types : ℕ) (m : State) where
 
     module _ (within : starts_at Forwards rs m.cursor ≤ length rs) where
       -- a sequential read or a seek in the direction d
-      asked_copies : (seek : Bool) → status_of (read_asked types m q (cond seek (Seek d) (Sequential d))).answer ≡ 0
-          → Copies d q (read_asked types m q (cond seek (Seek d) (Sequential d)))
+      asked_copies : (seek : Bool) → status_of (read_asked types m q (Some (cond seek (Seek d) (Sequential d)))).answer ≡ 0
+          → Copies d q (read_asked types m q (Some (cond seek (Seek d) (Sequential d))))
       asked_copies false z = from_copies (starts_at d rs m.cursor) (starts_within rs d m.cursor within) z
       asked_copies true z = go (leb (suc (older_than q.number rs)) (length rs)) refl z
         where
@@ -90,7 +90,7 @@ module _ (types : ℕ) (m : State) where
           go true f z = from_copies (seeks_at d o) (seeks_within rs d o (leb-true (suc o) (length rs) f)) z
           go false f z = absurd (suc-ne-zero _ z)
 
-      request_either : (q.flags ≡ sequential_flags d) ⊎ (q.flags ≡ seek_flags d) → (seek : Bool) × (request q.flags ≡ cond seek (Seek d) (Sequential d))
+      request_either : (q.flags ≡ sequential_flags d) ⊎ (q.flags ≡ seek_flags d) → (seek : Bool) × (request q.flags ≡ Some (cond seek (Seek d) (Sequential d)))
       request_either a =
           ⊎_elim (λ e. (false, ap request e ∙ request_sequential d)) (λ e. (true, ap request e ∙ request_seek d)) a
 
@@ -99,7 +99,7 @@ module _ (types : ℕ) (m : State) where
           → (is_type_set types ≡ true) × Copies d q (read_outcome types m q)
       success_copies a z = go (size_ok q.size q.output) (is_type_set types) refl z
         where
-          r : (seek : Bool) × (request q.flags ≡ cond seek (Seek d) (Sequential d))
+          r : (seek : Bool) × (request q.flags ≡ Some (cond seek (Seek d) (Sequential d)))
           r = request_either a
 
           go : (a b : Bool) → is_type_set types ≡ b → status_of (cond (a && b) (read_asked types m q (request q.flags)) wrong).answer ≡ 0

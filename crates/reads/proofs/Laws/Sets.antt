@@ -1,6 +1,6 @@
 -- The set of a handle: every read hands it back, and with all six types every record is wanted.
 -- Assumes nothing.
-use Rattle.std.specs.Prelude.{◌≡◌, Bool, true, false, cond, List, [], ◌∷◌, ℕ}
+use Rattle.std.specs.Prelude.{◌≡◌, Bool, true, false, cond, List, [], ◌∷◌, ℕ, Option, Some, None, Result, Ok, Err}
 use Rattle.std.proofs.Math.Path.{refl, ap}
 use Rattle.std.proofs.Common.{◌∙◌}
 use Rattle.format.specs.declared.Record.{Record}
@@ -10,13 +10,13 @@ use Rattle.format.specs.Judge.{past}
 use Rattle.event_types.specs.Types.{is_type_set}
 use Rattle.event_types.specs.Laws.{only_all, all_hold, all_right}
 use Rattle.delivered.specs.declared.Delivered.{Delivered}
-use Rattle.delivered.specs.declared.Delivered.TheVariants.{Records, End, Corrupt, TooLong}
+use Rattle.delivered.specs.declared.Undelivered.{Undelivered}
+use Rattle.delivered.specs.declared.Undelivered.TheVariants.{End, Corrupt, TooLong}
 use Rattle.delivery.specs.Delivering.{trace_ahead, wanted, wanted_of, delivered, delivering}
 use Rattle.request.specs.declared.Request.{Request}
-use Rattle.request.specs.declared.Request.TheVariants.{Sequential, Seek, Wrong}
+use Rattle.request.specs.declared.Request.TheVariants.{Sequential, Seek}
+use Rattle.request.specs.declared.status.Status.{Status}
 use Rattle.request.specs.Statuses.{invalid_parameter, invalid_handle}
-use Rattle.seek.specs.declared.Start.{Start}
-use Rattle.seek.specs.declared.Start.TheVariants.{From, Refused}
 use Rattle.seek.specs.Seeking.{seek_start}
 use Rattle.serve.specs.declared.Place.{Place}
 use Rattle.serve.specs.declared.Handle.{Handle}
@@ -32,15 +32,15 @@ module _ (h : Handle) where
   abbrev Keeps : Served → Type 0
   Keeps x = x.answer.handle.types ≡ h.types
 
-  answer_keeps : (x : Delivered) (out : List ℕ) → Keeps (served (answer_to h x) out)
-  answer_keeps (Records read place) out = refl
-  answer_keeps End out = refl
-  answer_keeps Corrupt out = refl
-  answer_keeps (TooLong n) out = refl
+  answer_keeps : (x : Result Delivered Undelivered) (out : List ℕ) → Keeps (served (answer_to h x) out)
+  answer_keeps (Ok x) out = refl
+  answer_keeps (Err End) out = refl
+  answer_keeps (Err Corrupt) out = refl
+  answer_keeps (Err (TooLong n)) out = refl
 
-  started_keeps : (d : Direction) (w : ℕ) (s : List ℕ) (size : ℕ) (out : List ℕ) (x : Start) → Keeps (started d w s size h out x)
-  started_keeps d w s size out (Refused status) = refl
-  started_keeps d w s size out (From p) =
+  started_keeps : (d : Direction) (w : ℕ) (s : List ℕ) (size : ℕ) (out : List ℕ) (x : Result ℕ Status) → Keeps (started d w s size h out x)
+  started_keeps d w s size out (Err k) = refl
+  started_keeps d w s size out (Ok p) =
       let x = delivering d w s h.types p size out in answer_keeps x.answer x.output
 
   allowed_keeps : (s : List ℕ) (size : ℕ) (out : List ℕ) (x : Served) → Keeps x → Keeps (allowed s h size out x)
@@ -53,14 +53,14 @@ module _ (h : Handle) where
       go true false c = refl
       go false b c = refl
 
-  pub asked_keeps : (w : ℕ) (s : List ℕ) (number size : ℕ) (out : List ℕ) (x : Request) → Keeps (asked w s h number size out x)
-  asked_keeps w s number size out (Sequential d) =
-      let p : Start = From (reading_place d s h.place) in
+  pub asked_keeps : (w : ℕ) (s : List ℕ) (number size : ℕ) (out : List ℕ) (x : Option Request) → Keeps (asked w s h number size out x)
+  asked_keeps w s number size out (Some (Sequential d)) =
+      let p : Result ℕ Status = Ok (reading_place d s h.place) in
       allowed_keeps s size out (started d w s size h out p) (started_keeps d w s size out p)
-  asked_keeps w s number size out (Seek d) =
-      let p : Start = seek_start d w s number in
+  asked_keeps w s number size out (Some (Seek d)) =
+      let p : Result ℕ Status = seek_start d w s number in
       allowed_keeps s size out (started d w s size h out p) (started_keeps d w s size out p)
-  asked_keeps w s number size out Wrong = refl
+  asked_keeps w s number size out None = refl
 
 -- ---- with all six types
 
@@ -78,16 +78,16 @@ module _ (place : Place) where
   abbrev h : Handle
   h = record { place = place; types = 0x3F }
 
-  plain_answer : (x : Delivered) (out : List ℕ) → plain (served (answer_to h x) out) ≡ plain_to place x out
-  plain_answer (Records read at) out = refl
-  plain_answer End out = refl
-  plain_answer Corrupt out = refl
-  plain_answer (TooLong n) out = refl
+  plain_answer : (x : Result Delivered Undelivered) (out : List ℕ) → plain (served (answer_to h x) out) ≡ plain_to place x out
+  plain_answer (Ok x) out = refl
+  plain_answer (Err End) out = refl
+  plain_answer (Err Corrupt) out = refl
+  plain_answer (Err (TooLong n)) out = refl
 
-  plain_started_lem : (d : Direction) (w : ℕ) (s : List ℕ) (size : ℕ) (out : List ℕ) (x : Start) → plain (started d w s size h out x) ≡ plain_started d w s size place out x
+  plain_started_lem : (d : Direction) (w : ℕ) (s : List ℕ) (size : ℕ) (out : List ℕ) (x : Result ℕ Status) → plain (started d w s size h out x) ≡ plain_started d w s size place out x
   unfolding delivering
-  plain_started_lem d w s size out (Refused status) = refl
-  plain_started_lem d w s size out (From p) =
+  plain_started_lem d w s size out (Err k) = refl
+  plain_started_lem d w s size out (Ok p) =
       let number = (trace_ahead d w s p).refusal.number in
       let all = delivered d s size out number (trace_ahead d w s p).records in
       ap (λ t. plain (served_with h (delivered d s size out number t))) (all_wanted d w s p) ∙ plain_answer all.answer all.output
@@ -103,11 +103,11 @@ module _ (place : Place) where
       go true false = refl
       go false b = refl
 
-  pub plain_asked_lem : (w : ℕ) (s : List ℕ) (number size : ℕ) (out : List ℕ) (x : Request) → plain (asked w s h number size out x) ≡ plain_asked w s place number size out x
-  plain_asked_lem w s number size out (Sequential d) =
-      let p : Start = From (reading_place d s place) in
+  pub plain_asked_lem : (w : ℕ) (s : List ℕ) (number size : ℕ) (out : List ℕ) (x : Option Request) → plain (asked w s h number size out x) ≡ plain_asked w s place number size out x
+  plain_asked_lem w s number size out (Some (Sequential d)) =
+      let p : Result ℕ Status = Ok (reading_place d s place) in
       plain_allowed_lem s size out (started d w s size h out p) ∙ ap (plain_allowed s place size out) (plain_started_lem d w s size out p)
-  plain_asked_lem w s number size out (Seek d) =
-      let p : Start = seek_start d w s number in
+  plain_asked_lem w s number size out (Some (Seek d)) =
+      let p : Result ℕ Status = seek_start d w s number in
       plain_allowed_lem s size out (started d w s size h out p) ∙ ap (plain_allowed s place size out) (plain_started_lem d w s size out p)
-  plain_asked_lem w s number size out Wrong = refl
+  plain_asked_lem w s number size out None = refl

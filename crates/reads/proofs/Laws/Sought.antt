@@ -1,12 +1,11 @@
 -- A seek in any log, with a cut or none.
 -- Assumes nothing.
-use Rattle.std.specs.Prelude.{◌≡◌, refl, Bool, true, false, cond, ◌⊎◌, List, [], ◌∷◌, ◌++◌, ℕ, eqb}
+use Rattle.std.specs.Prelude.{◌≡◌, refl, Bool, true, false, cond, ◌⊎◌, List, [], ◌∷◌, ◌++◌, ℕ, eqb, Ok}
 use Rattle.std.proofs.Common.{sym, ◌∙◌, subst, arith, eq-eqb, ne_eqb, eqb-true}
 use Rattle.std.proofs.Math.Path.{ap}
 use Rattle.std.proofs.Math.Logic.{inl, inr, ⊎_elim}
 use Rattle.std.proofs.lemmas.Bool.{eqb-false}
 use Rattle.format.specs.declared.Record.{Record}
-use Rattle.format.specs.declared.Step.TheVariants.{Found}
 use Rattle.format.specs.declared.Direction.{Direction}
 use Rattle.format.specs.declared.Direction.TheVariants.{Forwards, Backwards}
 use Rattle.format.specs.Bytes.{All, none, more}
@@ -28,14 +27,14 @@ use Rattle.reads.proofs.Laws.Ahead.{reads_from_lem, by_status}
 
 -- ---- a record of the walk is met at its start, and at its end backwards
 
-sought_next : (w : ℕ) (s : List ℕ) (d : Direction) (number : ℕ) (a : Record) → FirstHas w s number a → step_at d w s (place_of d a) ≡ Found a
+sought_next : (w : ℕ) (s : List ℕ) (d : Direction) (number : ℕ) (a : Record) → FirstHas w s number a → step_at d w s (place_of d a) ≡ Ok a
 sought_next w s d number a x = go d
   where
-    front : step_at Forwards w s a.start ≡ Found a
+    front : step_at Forwards w s a.start ≡ Ok a
     front =
         (walked_on Forwards w s 0 x.older a x.newer (sym (ap (λ (t : Trace). t.records) (rest_start Forwards w s)) ∙ x.whole)).0
 
-    go : (d : Direction) → step_at d w s (place_of d a) ≡ Found a
+    go : (d : Direction) → step_at d w s (place_of d a) ≡ Ok a
     go Forwards = front
     go Backwards = (found_lies Forwards w s a.start a front).again
 

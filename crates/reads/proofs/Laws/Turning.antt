@@ -1,9 +1,8 @@
 -- Turning round: the record that was copied last is the next one in the other direction.
 -- Assumes nothing.
-use Rattle.std.specs.Prelude.{◌≡◌, refl, true, List, [], ◌∷◌, ◌++◌, ℕ, ◌+◌, ◌≤◌, ◌<◌, length, take, drop}
+use Rattle.std.specs.Prelude.{◌≡◌, refl, true, List, [], ◌∷◌, ◌++◌, ℕ, ◌+◌, ◌≤◌, ◌<◌, length, take, drop, Ok}
 use Rattle.std.proofs.Common.{sym, ap, ap₂, ◌∙◌, subst, append_assoc, append-nil, arith, length-append, take_at}
 use Rattle.format.specs.declared.Record.{Record}
-use Rattle.format.specs.declared.Step.TheVariants.{Found}
 use Rattle.format.specs.declared.Direction.{Direction}
 use Rattle.format.specs.Bytes.{part}
 use Rattle.format.specs.Judge.{step_at}
@@ -35,7 +34,7 @@ module _ (d : Direction) (w : ℕ) (s : List ℕ) (types : ℕ) where
     last : Record
     before : List ℕ
     bytes : records_bytes s bs ≡ before ++ bytes_in last
-    next : step_at (opposite d) w s e ≡ Found last
+    next : step_at (opposite d) w s e ≡ Ok last
     want : wanted types last ≡ true
 
   last_of : {p q : ℕ} {a : Record} {bs : List Record} {e : ℕ} → Next d w s types p a → q ≡ edge d a → Finds d w s types q bs e → Last (a ∷ bs) e

@@ -1,6 +1,6 @@
 -- The wanted records from a place of any log on, and what the walk from there has of them.
 -- Assumes nothing.
-use Rattle.std.specs.Prelude.{◌≡◌, Bool, cond, ◌⊎◌, ℕ, zero, suc, ◌≤◌, ◌<◌, length}
+use Rattle.std.specs.Prelude.{◌≡◌, Bool, cond, ◌⊎◌, ℕ, zero, suc, ◌≤◌, ◌<◌, length, Ok, Err, Result}
 use Rattle.std.proofs.Math.Path.{refl, ap}
 use Rattle.std.proofs.Common.{sym, ◌∙◌, subst, arith, length-take-le}
 use Rattle.std.proofs.Math.Bool.{true, false}
@@ -8,11 +8,10 @@ use Rattle.std.proofs.Math.Logic.{inl, inr}
 use mathlib.Core.List.{List, [], ◌∷◌, ◌++◌, nil≢cons, head-eq_of_cons-eq, tail-eq_of_cons-eq}
 use Rattle.format.specs.declared.Refusal.{Refusal}
 use Rattle.format.specs.declared.Record.{Record}
-use Rattle.format.specs.declared.Step.{Step}
-use Rattle.format.specs.declared.Step.TheVariants.{Found, Refused}
+use Rattle.format.specs.declared.Refused.{Refused}
 use Rattle.format.specs.declared.Direction.{Direction}
 use Rattle.format.specs.declared.Direction.TheVariants.{Forwards, Backwards}
-use Rattle.format.specs.Judge.{ahead, past, step_at}
+use Rattle.format.specs.Judge.{ahead, past, step_at, refused_at}
 use Rattle.format.specs.Walk.{Trace, onto}
 use Rattle.format.proofs.Laws.Steps.{refused_number}
 use Rattle.format.proofs.Laws.Records.{found_start}
@@ -29,36 +28,36 @@ wanted_from d w s types p = wanted_of types (trace_ahead d w s p).records
 -- ---- the walk from a place on
 
 module _ (d : Direction) (w : ℕ) (s : List ℕ) where
-  found_on : (p : ℕ) (a : Record) → step_at d w s p ≡ Found a → trace_ahead d w s p ≡ onto a (trace_ahead d w s (past d p a.length))
+  found_on : (p : ℕ) (a : Record) → step_at d w s p ≡ Ok a → trace_ahead d w s p ≡ onto a (trace_ahead d w s (past d p a.length))
   found_on p a f =
       let x = found_lies d w s p a f in
       rest_found d w s p a x.inside (omega (arith, x.low, x.fits)) f
 
   -- a step finds no bytes, refuses, or finds a record
-  by_step : {X : Type 0} (p : ℕ) → (length (ahead d s p) ≡ 0 → X) → ((k : Refusal) (q : ℕ) → zero < length (ahead d s p) → step_at d w s p ≡ Refused k q → X)
-      → ((a : Record) → step_at d w s p ≡ Found a → X) → X
+  by_step : {X : Type 0} (p : ℕ) → (length (ahead d s p) ≡ 0 → X) → ((k : Refusal) (q : ℕ) → zero < length (ahead d s p) → step_at d w s p ≡ Err (refused_at k q) → X)
+      → ((a : Record) → step_at d w s p ≡ Ok a → X) → X
   by_step {X} p none refuses finds = go (length (ahead d s p)) refl (step_at d w s p) refl
     where
-      go : (n : ℕ) → length (ahead d s p) ≡ n → (x : Step) → step_at d w s p ≡ x → X
+      go : (n : ℕ) → length (ahead d s p) ≡ n → (x : Result Record Refused) → step_at d w s p ≡ x → X
       go zero e x f = none e
-      go (suc n) e (Found a) f = finds a f
-      go (suc n) e (Refused k q) f = refuses k q (omega (arith, e)) f
+      go (suc n) e (Ok a) f = finds a f
+      go (suc n) e (Err x) f = refuses x.refusal x.at (omega (arith, e)) f
 
   -- the walk's first record is what the step finds
   pub first_found : (p : ℕ) (a : Record) (bs : List Record) → (trace_ahead d w s p).records ≡ a ∷ bs
-      → (step_at d w s p ≡ Found a) × ((trace_ahead d w s (past d p a.length)).records ≡ bs)
+      → (step_at d w s p ≡ Ok a) × ((trace_ahead d w s (past d p a.length)).records ≡ bs)
   first_found p a bs e =
       by_step p (λ none. absurd (nil≢cons (sym (ap (λ (t : Trace). t.records) (rest_end d w s p none)) ∙ e)))
       (λ k q some f. absurd (nil≢cons (sym (ap (λ (t : Trace). t.records) (rest_refused d w s p k q some f)) ∙ e)))
       (λ b f.
       let same : b ∷ (trace_ahead d w s (past d p b.length)).records ≡ a ∷ bs = sym (ap (λ (t : Trace). t.records) (found_on p b f)) ∙ e in
       let this : b ≡ a = head-eq_of_cons-eq same in
-      (f ∙ ap Found this, ap (λ (c : Record). (trace_ahead d w s (past d p c.length)).records) (sym this) ∙ tail-eq_of_cons-eq same))
+      (f ∙ ap Ok this, ap (λ (c : Record). (trace_ahead d w s (past d p c.length)).records) (sym this) ∙ tail-eq_of_cons-eq same))
 
 -- ---- a record of the walk
 
 -- the place from which a record is met is the one where the step found it
-place_found : (d : Direction) (w : ℕ) (s : List ℕ) (p : ℕ) (a : Record) → step_at d w s p ≡ Found a → place_of d a ≡ p
+place_found : (d : Direction) (w : ℕ) (s : List ℕ) (p : ℕ) (a : Record) → step_at d w s p ≡ Ok a → place_of d a ≡ p
 place_found Forwards w s p a f = found_start w s p a f
 place_found Backwards w s p a f =
     let x = found_lies Backwards w s p a f in
@@ -71,10 +70,10 @@ pub record Onward (d : Direction) (w : ℕ) (s : List ℕ) (p i : ℕ) (bs : Lis
   pub refusal : (trace_ahead d w s i).refusal ≡ (trace_ahead d w s p).refusal
 
 pub walked_on : (d : Direction) (w : ℕ) (s : List ℕ) (p : ℕ) (before : List Record) (a : Record) (bs : List Record) → (trace_ahead d w s p).records ≡ before ++ (a ∷ bs)
-    → (step_at d w s (place_of d a) ≡ Found a) × Onward d w s p (place_of d a) (a ∷ bs)
+    → (step_at d w s (place_of d a) ≡ Ok a) × Onward d w s p (place_of d a) (a ∷ bs)
 walked_on d w s p [] a bs e =
     let f = (first_found d w s p a bs e).0 in
-    subst (λ i. (step_at d w s i ≡ Found a) × Onward d w s p i (a ∷ bs)) (sym (place_found d w s p a f)) (
+    subst (λ i. (step_at d w s i ≡ Ok a) × Onward d w s p i (a ∷ bs)) (sym (place_found d w s p a f)) (
       f,
       record { inside = (found_lies d w s p a f).inside; records = e; refusal = refl },
     )
@@ -136,7 +135,7 @@ module _ (d : Direction) (w : ℕ) (s : List ℕ) (types : ℕ) where
   Coming : ℕ → Type 0
   Coming p = NoneLeft d w s types p ⊎ (NextRefuses d w s types p ⊎ ((a : Record) × Next d w s types p a))
 
-  skip_more : (p : ℕ) (a : Record) → step_at d w s p ≡ Found a → wanted types a ≡ false → Coming (past d p a.length) → Coming p
+  skip_more : (p : ℕ) (a : Record) → step_at d w s p ≡ Ok a → wanted types a ≡ false → Coming (past d p a.length) → Coming p
   unfolding Coming
   skip_more p a f u (inl x) = inl (record { end = x.end; skipped = skip f u x.skipped; left = x.left })
   skip_more p a f u (inr (inl x)) =
@@ -167,7 +166,7 @@ module _ (d : Direction) (w : ℕ) (s : List ℕ) (types : ℕ) where
       let f = first_found d w s p a bs e in
       go f.0 (wanted types a) refl (coming (past d p a.length) bs f.1)
     where
-      go : step_at d w s p ≡ Found a → (b : Bool) → wanted types a ≡ b → Coming (past d p a.length) → Coming p
+      go : step_at d w s p ≡ Ok a → (b : Bool) → wanted types a ≡ b → Coming (past d p a.length) → Coming p
       go f true u y = inr (inr (a, record { at = p; skipped = here; found = f; want = u }))
       go f false u y = skip_more p a f u y
 

@@ -1,9 +1,6 @@
 -- The output is too short, or the units are put. Assumes nothing.
-use mathlib.Core.Path.{refl, sym, ◌∙◌}
-use Prim.Native.Nat.{◌*◌, ◌≤◌}
+use mathlib.Core.Path.{sym, ◌∙◌}
 use native.Mathlib.Omega.{arith}
-use lib.ListN.{length}
-use Rattle.windows_1252_table.specs.Table.{table}
 use Rattle.windows_1252_table.specs.Utf16.{to_utf16}
 use Rattle.windows_1252.specs.Theorems.{utf16_size, utf16_written, utf16_no_room}
 use Rattle.windows_1252.proofs.Putting.{put_all}
@@ -11,12 +8,6 @@ use Rattle.windows_1252.proofs.to_utf16.Goals as goal
 
 pub returns-then-out-bytes : goal.returns-then-out-bytes
 returns-then-out-bytes c = let a = c.args in sym (utf16_no_room a.bytes.now a.out.now (omega arith))
-
-pub put_units-requires : goal.put_units-requires
-unfolding table
-put_units-requires c =
-    let room : 2 * length c.args.bytes.now ≤ length c.args.out.now = omega arith in
-    (refl, room)
 
 pub returns : goal.returns
 returns c =
