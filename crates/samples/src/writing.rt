@@ -12,7 +12,7 @@ use std::io;
 fn refusal(q: Question<'_>) -> u32 {
     match event::check(Edition::Unicode, &q.event(1)) {
         Ok(_) => 0,
-        Err(k) => k.number(),
+        Err(x) => x.refusal.number(),
     }
 }
 

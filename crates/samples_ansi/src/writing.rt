@@ -3,7 +3,7 @@
 use crate::records::{edition, log, s, unicode_t};
 use crate::show::{Answer, Hex, line, output, topic};
 use crate::table::{Question, ask};
-use event::Event;
+use event::{Event, Unwritten};
 use format::{Direction, Edition, Fields};
 use places::{Lengths, Places, measure};
 use std::io;
@@ -13,7 +13,7 @@ use stores::put;
 fn refusal(e: Edition, event: &Event<'_, Fields>) -> u32 {
     match event::check(e, event) {
         Ok(_) => 0,
-        Err(k) => k.number(),
+        Err(x) => x.refusal.number(),
     }
 }
 
@@ -93,7 +93,27 @@ fn most_data(rt: &impl Print, event_data: &[u8; 61441]) -> io::Result<()> {
         event_data,
         ..Question(b"7").event(0)
     };
-    in_both(rt, b"61441 bytes of data", &event)
+    in_both(rt, b"61441 bytes of data", &event)?;
+    refused_places(rt, b"  its places", Edition::Ansi, &event)?;
+    refused_places(rt, b"  its places in Unicode", Edition::Unicode, &event)
+}
+
+// The places that a refusal tells; 0 where the event is accepted, or its record would be too long.
+fn refused_places(
+    rt: &impl Print,
+    what: &[u8],
+    e: Edition,
+    event: &Event<'_, Fields>,
+) -> io::Result<()> {
+    match event::check(e, event) {
+        Err(
+            Unwritten {
+                refusal: _,
+                places: Some(p),
+            },
+        ) => line(rt, what, p),
+        _ => line(rt, what, 0u32),
+    }
 }
 
 // An event into so much room, which its last field says.
