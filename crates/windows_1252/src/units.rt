@@ -35,14 +35,15 @@ impl Tables {
         self.units[usize::from(b)]
     }
 
-    // The one byte that a unit can be, as a unit: as a `u8` it made judging a text take half as long again.
-    fn candidate(&self, u: u16) -> u16
+    // The one byte that a unit can be, as an index: as a narrower number it made judging and writing a text take up to half
+    // as long again.
+    fn candidate(&self, u: u16) -> usize
         ensures { (result ≡ candidate_of u) × (result < 256) }
     {
         if u < 256 {
-            return u;
+            return usize::from(u);
         }
-        u16::from(self.candidates[usize::from(u % 79)])
+        usize::from(self.candidates[usize::from(u % 79)])
     }
 
     // Rule 14.3: the byte of a unit, where the table has it.
@@ -53,7 +54,7 @@ impl Tables {
             return Some(u as u8);
         }
         let b = self.candidate(u);
-        if self.units[usize::from(b)] == u {
+        if self.units[b] == u {
             return Some(b as u8);
         }
         None
